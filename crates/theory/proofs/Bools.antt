@@ -1,0 +1,35 @@
+-- Tests as equations with `true`.
+use mathlib.Core.Bool.{Bool, true, false, _&&_, _||_, false≢true}
+use mathlib.Core.Logic.{_⊎_, inl, inr}
+use mathlib.Core.Path.{_≡_, refl}
+use Prim.Native.Nat.{ℕ}
+use lib.Dec.{eqb}
+use borrow.Author.Tests.{eq-eqb}
+
+pub and-split : (a b : Bool) → (a && b) ≡ true → (a ≡ true) × (b ≡ true)
+and-split true b h = (refl, h)
+and-split false b h = absurd (false≢true h)
+
+pub and-join : {a b : Bool} → a ≡ true → b ≡ true → (a && b) ≡ true
+and-join h k = rw (h, k)
+
+pub or-split : (a b : Bool) → (a || b) ≡ true → (a ≡ true) ⊎ (b ≡ true)
+or-split true b h = inl refl
+or-split false b h = inr h
+
+pub or-left : {a : Bool} (b : Bool) → a ≡ true → (a || b) ≡ true
+or-left b h = rw h
+
+pub or-right : (a : Bool) {b : Bool} → b ≡ true → (a || b) ≡ true
+or-right true h = refl
+or-right false h = h
+
+-- a test is settled by when it passes
+pub bool-eq : (a b : Bool) → (a ≡ true → b ≡ true) → (b ≡ true → a ≡ true) → a ≡ b
+bool-eq true true h k = refl
+bool-eq true false h k = absurd (false≢true (h refl))
+bool-eq false true h k = absurd (false≢true (k refl))
+bool-eq false false h k = refl
+
+pub eqb-same : (n : ℕ) → eqb n n ≡ true
+eqb-same n = eq-eqb n n refl

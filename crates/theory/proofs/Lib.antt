@@ -1,0 +1,11 @@
+pub mod Bools
+pub mod Yields
+pub mod Rounds
+pub mod Count
+pub mod First
+pub mod Follow
+pub mod Productive
+pub mod Cost
+pub mod CostRounds
+pub mod Paths
+pub mod Sentences

@@ -17,7 +17,7 @@ use Rattle.theory.specs.Visits.{Costs, formCost, costVisit, costCleared}
 use Rattle.theory.specs.Rounds.{run, Valid, Round, AllRounds, rounds, Rest, AnyOrder}
 use Rattle.theory.specs.Tables.{Proper, CostTrue, CostExact}
 use Rattle.theory.proofs.Yields.{Yields, nil, keep, open′, derives→yields, map-parts}
-use Rattle.theory.proofs.Rounds.{run-keeps, rounds-keeps, Ascent, rounds-done, Climb, until-ends, until-rest, upto, upto-round}
+use Rattle.theory.proofs.Rounds.{run-keeps, rounds-keeps, Ascent, rounds-done, Climb, until-keeps, until-ends, until-rest, upto, upto-round}
 use Rattle.theory.proofs.Count.{sum, sum-le, sum-grows, bit, bit-le, bit-grows}
 use Rattle.theory.proofs.Cost.{Capped, cost-append, visit-cases, visit-owner, visit-below, visit-capped, cost-visit-true, cost-cleared-true, closed, form-least, cost-rest-exact, costs-one}
 
@@ -182,7 +182,8 @@ module _ (g : Grammar) (k : ℕ → ℕ) (ok : Proper g) where
   cost-settles vs rd len =
       let u = until-ends (cost-climb g k ok) (upto (g .prods)) (upto-round (g .prods)) costCleared (cleared-good g k ok) in
       let r = until-rest (cost-climb g k ok) (upto (g .prods)) (upto-round (g .prods)) (u .1) (cleared-good g k ok) in
-      rw (rounds-final g k ok (u .0) (r .1) (r .0) vs rd len) (r .0)
+      let i = until-keeps (costVisit g k) (g .prods) (Good g k) (visit-good g k ok) (upto-round (g .prods) .valid) (u .1) (cleared-good g k ok) in
+      rw (rounds-final g k ok (u .0) i r vs rd len) r
 
   run-true : (v : List ℕ) → Valid (g .prods) v → CostTrue g k (run (costVisit g k) v costCleared)
   run-true v h = run-keeps (costVisit g k) (g .prods) (CostTrue g k) (cost-visit-true g k) v h costCleared (cost-cleared-true g k)

@@ -32,9 +32,13 @@ module _ {S : Type 0} (step : ℕ → S → S) where
   run-keeps P Inv k [] h s i = i
   run-keeps P Inv k (p ∷ v) h s i = run-keeps P Inv k v (λ q m. h q (List·Memᴰ·tail m)) _ (k p (h p (List·Memᴰ·head refl)) s i)
 
-  run-append : (u v : List ℕ) (s : S) → run step (u ++ v) s ≡ run step v (run step u s)
+  pub run-append : (u v : List ℕ) (s : S) → run step (u ++ v) s ≡ run step v (run step u s)
   run-append [] v s = refl
   run-append (p ∷ u) v s = run-append u v (step p s)
+
+  pub until-keeps : (P : ℕ) (Inv : S → Type 0) → ((p : ℕ) → p < P → (s : S) → Inv s → Inv (step p s)) → {v : List ℕ} → Valid P v → {s t : S} → Until step v s t → Inv s → Inv t
+  until-keeps P Inv k h (stop e) i = i
+  until-keeps P Inv k {v} h (again {s = s} u) i = until-keeps P Inv k h u (run-keeps P Inv k v h s i)
 
   run-still : (s : S) (v : List ℕ) → ((p : ℕ) → List·Memᴰ p v → step p s ≡ s) → run step v s ≡ s
   run-still s [] h = refl
@@ -129,8 +133,8 @@ module _ {S : Type 0} {step : ℕ → S → S} {Inv : S → Type 0} {P top : ℕ
   }
 
   -- rounds until one changes nothing: what they come to is at rest
-  pub until-rest : (v : List ℕ) → Round P v → {s t : S} → Until step v s t → Inv s → Rest step P t × Inv t
-  until-rest v rd (stop {s = s} e) i = elim (round-grows v rd s i) [ inl r ↦ (r, i) | inr l ↦ absurd (omega (arith, ap (c .size) e)) ]
+  pub until-rest : (v : List ℕ) → Round P v → {s t : S} → Until step v s t → Inv s → Rest step P t
+  until-rest v rd (stop {s = s} e) i = elim (round-grows v rd s i) [ inl r ↦ r | inr l ↦ absurd (omega (arith, ap (c .size) e)) ]
   until-rest v rd (again {s = s} u) i = until-rest v rd u (run-keeps step P Inv (c .kept) v (rd .valid) s i)
 
   -- and they come to something, after at most `top` rounds that change something

@@ -1,6 +1,7 @@
 pub mod Bools
 pub mod Yields
 pub mod Rounds
+pub mod Fills
 pub mod Count
 pub mod First
 pub mod Follow

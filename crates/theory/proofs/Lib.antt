@@ -1,4 +1,6 @@
 pub mod Bools
+pub mod Below
+pub mod Parts
 pub mod Yields
 pub mod Rounds
 pub mod Fills

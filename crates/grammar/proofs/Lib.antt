@@ -4,3 +4,4 @@ pub mod Lowest
 pub mod Produced
 pub mod Well
 pub mod Denoted
+pub mod Callers

@@ -4,7 +4,7 @@ use mathlib.Core.Logic.{_⊎_, inl, inr}
 use mathlib.Core.Path.{_≡_, refl, sym, _∙_}
 use Prim.Native.Nat.{ℕ}
 use lib.Dec.{eqb}
-use borrow.Author.Tests.{eq-eqb, not-true, not-false}
+use borrow.Author.Tests.{eqb-true, eq-eqb, not-true, not-false}
 
 pub and-split : (a b : Bool) → (a && b) ≡ true → (a ≡ true) × (b ≡ true)
 and-split true b h = (refl, h)
@@ -49,3 +49,6 @@ bool-eq false false h k = refl
 
 pub eqb-same : (n : ℕ) → eqb n n ≡ true
 eqb-same n = eq-eqb n n refl
+
+pub eqb-turned : (a b : ℕ) → eqb a b ≡ eqb b a
+eqb-turned a b = bool-eq _ _ (λ e. eq-eqb b a (sym (eqb-true a b e))) (λ e. eq-eqb a b (sym (eqb-true b a e)))

@@ -1,0 +1,146 @@
+-- The walk, turn by turn: what row o has got so far, and what is left of the stretch.
+use mathlib.Core.Bool.{Bool, true, false, not, cond, _&&_, _||_, or-false, or-assoc}
+use mathlib.Core.List.{List, [], _∷_, map}
+use mathlib.Core.Path.{_≡_, refl, sym, ap, _∙_}
+use Prim.Native.Nat.{ℕ, suc, _+_, _-_, _*_, _/_, _≤_, _<_}
+use native.Mathlib.Nat.{le-antisymm, mul-le-mul-right}
+use native.Mathlib.Numerals.{add-one}
+use native.Mathlib.Omega.{arith}
+use lib.Dec.{ltb, eqb}
+use lib.ListN.{length}
+use lib.Seq.{slice, slice-cons, slice-empty}
+use borrow.Author.Tests.{lt-ltb, le-ltb, not-true, not-false}
+use Rattle.theory.specs.Grammar.{Sym, tok, rul, Form}
+use Rattle.theory.specs.Visits.{Marks, firstOf, nullable}
+use Rattle.theory.proofs.Bools.{eqb-turned}
+use Rattle.grammar.specs.Flat.{at, symbol}
+use Rattle.grammar.specs.Well.{SymbolFits}
+use Rattle.rows.specs.Marks.{place, mark, marked, Raised, Rows}
+use Rattle.rows.specs.Tables.{Sized}
+use Rattle.rows.proofs.Marks.{row-in}
+use Rattle.rows.proofs.Raise.{raised-as, raised-none, raised-then, raised-join, raised-mark}
+use Rattle.rows.proofs.Tables.{view-mark}
+use Rattle.tables.specs.Sizes.{words}
+use Rattle.firsts.specs.Lent.{Lent, lent, Held, marksOf, form}
+use Rattle.firsts.specs.Step.{Walkable, Walks}
+
+-- the stretch, taken apart
+pub form-done : (symbols : List ℕ) (i e : ℕ) → i ≤ e → e ≤ i → form symbols i e ≡ []
+unfolding form
+form-done symbols i e p q = rw (le-antisymm p q, slice-empty e symbols)
+
+pub form-more : (symbols : List ℕ) (i e : ℕ) → i < e → e ≤ length symbols → form symbols i e ≡ symbol (at symbols i) ∷ form symbols (i + 1) e
+unfolding form
+form-more symbols i e l k = rw (add-one, slice-cons i e symbols 0 l k)
+
+symbol-token : (s : ℕ) → s < 32768 → symbol s ≡ tok s
+symbol-token s l = rw (lt-ltb s 32768 l)
+
+symbol-rule : (s : ℕ) → 32768 ≤ s → symbol s ≡ rul (s - 32768)
+symbol-rule s l = rw (le-ltb s 32768 l)
+
+-- the marks are the words'
+module _ (R T : ℕ) (l : Lent) where
+  pub first-mark : (r t : ℕ) → r < R → t < T → marksOf R T l .first r t ≡ mark (words T) (l .first) r t
+  unfolding marksOf
+  first-mark r t lr lt = view-mark R T (words T) (l .first) r t lr lt
+
+  pub empty-mark : (r : ℕ) → r < R → marksOf R T l .empty r ≡ mark (words R) (l .empty) 0 r
+  unfolding marksOf
+  empty-mark r lr = view-mark 1 R (words R) (l .empty) 0 r (omega arith) lr
+
+-- at symbol i: row o is raised by `got`; FIRST of the stretch is that and FIRST of what is left, and the stretch vanishes if what is left does
+pub record Walking (R T : ℕ) (symbols : List ℕ) (a e o : ℕ) (l : Lent) (now : List ℕ) (new : Bool) (i : ℕ) : Type 0 where
+  pub low : a ≤ i
+  pub high : i ≤ e
+  pub got : ℕ → Bool
+  pub raised : Raised T (words T) (l .first) now o got new
+  pub rest : (t : ℕ) → t < T → firstOf (marksOf R T l) (form symbols a e) t ≡ (got t || firstOf (marksOf R T l) (form symbols i e) t)
+  pub null : nullable (marksOf R T l .empty) (form symbols a e) ≡ nullable (marksOf R T l .empty) (form symbols i e)
+
+module _ (R T : ℕ) (symbols : List ℕ) (a e o : ℕ) (l : Lent) (ok : Walkable R T symbols a e o l) where
+  wide : T ≤ words T * 32
+  wide = omega arith
+
+  pub walk-start : Walking R T symbols a e o l (l .first) false a
+  walk-start = record {
+    low = omega arith;
+    high = ok .rise;
+    got = λ t. false;
+    raised = raised-none (λ t. false) (ok .held .first .small) (λ t lt. refl);
+    rest = λ t lt. refl;
+    null = refl;
+  }
+
+  module _ (now : List ℕ) (new : Bool) (i : ℕ) (w : Walking R T symbols a e o l now new i) where
+    pub walk-end : e ≤ i → Walks R T symbols a e o l new true now
+    walk-end h = record {
+      raised = raised-as _ (λ t lt. sym (w .rest t lt ∙ rw (form-done symbols i e (w .high) h) (or-false (w .got t)))) (w .raised);
+      passed = sym (w .null ∙ rw (form-done symbols i e (w .high) h));
+    }
+
+    module _ (s : ℕ) (is : s ≡ at symbols i) (h : i < e) where
+      fits : SymbolFits R T s
+      fits = rw is (ok .symbol i (omega (arith, ok .fits)))
+
+      long : length now ≡ R * words T
+      long = w .raised .long ∙ ok .held .first .len
+
+      -- a token
+      module _ (low : s < 32768) where
+        left-token : form symbols i e ≡ tok s ∷ form symbols (i + 1) e
+        left-token = form-more symbols i e h (ok .fits) ∙ rw (← is) (ap (λ (x : Sym). x ∷ form symbols (i + 1) e) (symbol-token s low))
+
+        token-below : s < T
+        token-below = omega (arith, fits .token low)
+
+        pub token-place : (wd x : ℕ) → wd ≡ words T → x ≡ s → place wd o x < length now
+        token-place wd x ew ex = rw (ew, ex) (row-in R T (words T) now o s wide long (ok .owner) token-below)
+
+        pub walk-token : (wd x : ℕ) (b : Bool) (to : List ℕ) → wd ≡ words T → x ≡ s → b ≡ not (mark wd now o x) → to ≡ marked wd now o x → Walks R T symbols a e o l (new || b) false to
+        walk-token wd x b to ew ex eb et = record {
+          raised = raised-as _ (λ t lt. sym (w .rest t lt ∙ rw (left-token, eqb-turned s t)))
+              (raised-then wide (w .raised) (rw (eb, et, ew, ex) (raised-mark T (words T) now o s wide (w .raised .small) (token-place (words T) s refl refl) token-below)));
+          passed = sym (w .null ∙ rw left-token);
+        }
+
+      -- a rule
+      module _ (high : 32768 ≤ s) where
+        left-rule : form symbols i e ≡ rul (s - 32768) ∷ form symbols (i + 1) e
+        left-rule = form-more symbols i e h (ok .fits) ∙ rw (← is) (ap (λ (x : Sym). x ∷ form symbols (i + 1) e) (symbol-rule s high))
+
+        rule-below : s - 32768 < R
+        rule-below = omega (arith, fits .rule high)
+
+        row-below : (r : ℕ) → r < R → r * words T + words T ≤ length now
+        row-below r lr = omega (arith, long, mul-le-mul-right {m = suc r} {n = R} (words T) lr)
+
+        pub rows-place : (wd x : ℕ) → wd ≡ words T → x ≡ s - 32768 → Rows T wd now x o
+        rows-place wd x ew ex = rw (ew, ex) (record { fits = wide; from = row-below (s - 32768) rule-below; to = row-below o (ok .owner) })
+
+        pub empty-place : (rd x : ℕ) → rd ≡ words R → x ≡ s - 32768 → place rd 0 x < length (l .empty)
+        empty-place rd x er ex = rw (er, ex) (row-in 1 R (words R) (l .empty) 0 (s - 32768) (omega arith) (ok .held .empty .len) (omega arith) rule-below)
+
+        module _ (wd rd x : ℕ) (b m : Bool) (to : List ℕ) (ew : wd ≡ words T) (er : rd ≡ words R) (ex : x ≡ s - 32768) (join : Raised T wd now to o (mark wd now x) b) (em : m ≡ mark rd (l .empty) 0 x) where
+          -- what is raised after it
+          on : Raised T (words T) (l .first) to o (λ t. w .got t || mark (words T) (l .first) (s - 32768) t) (new || b)
+          on = raised-join (s - 32768) wide (w .raised) (rw (ew, ex) at join)
+
+          is-empty : marksOf R T l .empty (s - 32768) ≡ m
+          is-empty = empty-mark R T l (s - 32768) rule-below ∙ sym (em ∙ rw (er, ex))
+
+          pub walk-on : not m ≡ false → Walking R T symbols a e o l to (new || b) (i + 1)
+          walk-on t = record {
+            low = omega (arith, w .low);
+            high = omega arith;
+            got = λ t. w .got t || mark (words T) (l .first) (s - 32768) t;
+            raised = on;
+            rest = λ u lu. w .rest u lu ∙ rw (left-rule, is-empty ∙ not-false m t, first-mark R T l (s - 32768) u rule-below lu) (sym (or-assoc (w .got u) (mark (words T) (l .first) (s - 32768) u) _));
+            null = w .null ∙ rw (left-rule, is-empty ∙ not-false m t);
+          }
+
+          pub walk-stop : not m ≡ true → Walks R T symbols a e o l (new || b) false to
+          walk-stop t = record {
+            raised = raised-as _ (λ u lu. sym (w .rest u lu ∙ rw (left-rule, is-empty ∙ not-true m t, first-mark R T l (s - 32768) u rule-below lu) (ap (λ (z : Bool). w .got u || z) (or-false (mark (words T) (l .first) (s - 32768) u))))) on;
+            passed = sym (w .null ∙ rw (left-rule, is-empty ∙ not-true m t));
+          }

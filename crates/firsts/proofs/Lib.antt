@@ -1,1 +1,5 @@
 pub mod Walking
+pub mod Stepping
+pub mod Moving
+pub mod Rounding
+pub mod Calling

@@ -100,7 +100,7 @@ module _ (R T : ℕ) (symbols : List ℕ) (a e o : ℕ) (l : Lent) (ok : Walkabl
         pub walk-token : (wd x : ℕ) (b : Bool) (to : List ℕ) → wd ≡ words T → x ≡ s → b ≡ not (mark wd now o x) → to ≡ marked wd now o x → Walks R T symbols a e o l (new || b) false to
         walk-token wd x b to ew ex eb et = record {
           raised = raised-as _ (λ t lt. sym (w .rest t lt ∙ rw (left-token, eqb-turned s t)))
-              (raised-then wide (w .raised) (rw (eb, et, ew, ex) (raised-mark T (words T) now o s wide (w .raised .small) (token-place (words T) s refl refl) token-below)));
+              (raised-then {g = λ u. eqb u s} wide (w .raised) (rw (eb, et, ew, ex) (raised-mark T (words T) now o s wide (w .raised .small) (token-place (words T) s refl refl) token-below)));
           passed = sym (w .null ∙ rw left-token);
         }
 

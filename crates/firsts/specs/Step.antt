@@ -2,7 +2,7 @@
 use mathlib.Core.Bool.{Bool, true, false}
 use mathlib.Core.List.{List}
 use mathlib.Core.Path.{_≡_}
-use Prim.Native.Nat.{ℕ, _≤_, _<_}
+use Prim.Native.Nat.{ℕ, _-_, _≤_, _<_}
 use lib.ListN.{length}
 use Rattle.theory.specs.Fills.{turns, Moves, Settles}
 use Rattle.theory.specs.Visits.{Marks, firstOf, nullable, firstVisit}
@@ -41,10 +41,11 @@ pub record Steps (g : Flat) (p : ℕ) (l : Lent) (changed : Bool) (to : Lent) : 
   pub told : changed ≡ true → to ≡ l → ⊥
   pub still : changed ≡ false → to ≡ l
 
--- what a round asks: a well-formed grammar and tables of their lengths
+-- what a round asks: a well-formed grammar, tables of their lengths, and that no rule has a mark for eof
 pub record Begun (g : Flat) (l : Lent) : Type 0 where
   pub well : WellFormed g
   pub held : Held (g .rules) (length (g .costs)) l
+  pub no-eof : (r : ℕ) → marksOf (g .rules) (length (g .costs)) l .first r (length (g .costs) - 1) ≡ false
 
 -- a round up or down was made
 abbrev pub Rounds : Flat → Bool → Lent → Bool → Lent → Type 0

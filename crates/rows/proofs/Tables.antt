@@ -75,6 +75,10 @@ module _ (R T W : ℕ) (ws : List ℕ) where
   pub became-still : (to : List ℕ) (f : Table) → Sized R W ws → Became R T W ws to f → f ≡ view R T W ws → to ≡ ws
   became-still to f s x e = became-one to ws (view R T W ws) (subst (λ z. Became R T W ws to z) e x) (became-self s)
 
+-- only the marks of R rows and T tokens matter
+pub became-as : (R T W : ℕ) (ws to : List ℕ) (f h : Table) → ((r t : ℕ) → r < R → t < T → f r t ≡ h r t) → Became R T W ws to f → Became R T W ws to h
+became-as R T W ws to f h e x = record { sized = x .sized; marks = λ r t lr lt. x .marks r t lr lt ∙ e r t lr lt; spare = x .spare }
+
 -- a raised row
 module _ (R T W : ℕ) (ws to : List ℕ) (o : ℕ) (f : ℕ → Bool) (new : Bool) (wide : T ≤ W * 32) (x : Raised T W ws to o f new) where
   in-row : (r t : ℕ) → t < T → mark W to r t ≡ (mark W ws r t || (eqb r o && f t))

@@ -79,7 +79,7 @@ pub record Marked {S : Type 0} (step : ℕ → S → S) (Inv : S → Type 0) (P 
   pub same : (p : ℕ) (s : S) → view s ≡ view (step p s) → step p s ≡ s
 
 -- so R times W bounds its rounds
-pub climb : {S : Type 0} {step : ℕ → S → S} {Inv : S → Type 0} {P R W : ℕ} → Marked step Inv P R W → Climb step Inv P (R * W)
+unfoldable pub climb : {S : Type 0} {step : ℕ → S → S} {Inv : S → Type 0} {P R W : ℕ} → Marked step Inv P R W → Climb step Inv P (R * W)
 climb {R} {W} m = record {
   size = λ s. marks R W (m .view s);
   kept = m .kept;

@@ -23,6 +23,12 @@ turn-below : (down : Bool) (P i : ℕ) → i < P → turn down P i < P
 turn-below true P i l = omega arith
 turn-below false P i l = l
 
+pub turn-down : (down : Bool) (P i : ℕ) → down ≡ true → P - 1 - i ≡ turn down P i
+turn-down down P i e = rw e
+
+pub turn-up : (down : Bool) (P i : ℕ) → down ≡ false → i ≡ turn down P i
+turn-up down P i e = rw e
+
 pub turned : (down : Bool) (P i p : ℕ) → i < P → p ≡ turn down P i → p < P
 turned down P i p l e = rw e (turn-below down P i l)
 
@@ -121,7 +127,7 @@ module _ {M S : Type 0} {step : ℕ → S → S} {view : M → S} {Keeps : M →
   settling-end s e = record { visits = s .visits; valid = s .valid; ran = s .ran; keeps = s .keeps; rest = s .rests e }
 
   -- one for a round still to be made, and one for each change it can make
-  pub left : M → Bool → ℕ
+  unfoldable pub left : M → Bool → ℕ
   left a x = cond x (f .top - f .climb .size (view a) + 1) 0
 
   pub settling-less : (down : Bool) {a b d : M} {x y : Bool} → f .Inv (view a) → Settling step view Keeps P a x b → x ≡ true → Moves step view Keeps (turns down P P) b y d → left d y < left b x

@@ -108,40 +108,41 @@ abbrev pub both : Marks → Table
 both m r zero = m .empty r
 both m r (suc t) = m .first r t
 
-module _ (g : Grammar) (ok : Proper g) where
-  firstOf-inside : (m : Marks) → Inside (g .rules) (g .tokens) (both m) → (α : Form) → ((t : ℕ) → List·Memᴰ (tok t) α → suc t < g .tokens) → (t : ℕ) → firstOf m α t ≡ true → suc t < g .tokens
-  firstOf-inside m w [] h t e = absurd (false≢true e)
-  firstOf-inside m w (tok s ∷ α) h t e = h t (List·Memᴰ·head (ap tok (sym (eqb-true s t e))))
-  firstOf-inside m w (rul r ∷ α) h t e =
-      let ih : firstOf m α t ≡ true → suc t < g .tokens = λ k. firstOf-inside m w α (λ u n. h u (List·Memᴰ·tail n)) t k in
-      elim (or-split (m .first r t) _ e) [ inl k ↦ w r (suc t) k .1 | inr k ↦ ih (and-split (m .empty r) _ k .1) ]
+-- what is so of each mark and of each token of the form is so of each token that the walk meets
+pub firstOf-all : (Q : ℕ → Type 0) (m : Marks) → ((r t : ℕ) → m .first r t ≡ true → Q t) → (α : Form) → ((t : ℕ) → List·Memᴰ (tok t) α → Q t) → (t : ℕ) → firstOf m α t ≡ true → Q t
+firstOf-all Q m w [] h t e = absurd (false≢true e)
+firstOf-all Q m w (tok s ∷ α) h t e = h t (List·Memᴰ·head (ap tok (sym (eqb-true s t e))))
+firstOf-all Q m w (rul r ∷ α) h t e =
+    let ih : firstOf m α t ≡ true → Q t = λ k. firstOf-all Q m w α (λ u n. h u (List·Memᴰ·tail n)) t k in
+    elim (or-split (m .first r t) _ e) [ inl k ↦ w r t k | inr k ↦ ih (and-split (m .empty r) _ k .1) ]
 
-  kept : (p : ℕ) → p < g .prods → (m : Marks) → Inside (g .rules) (g .tokens) (both m) → Inside (g .rules) (g .tokens) (both (firstVisit g p m))
-  kept p lt m w r zero e = elim (or-split (m .empty r) _ e) [
+module _ (g : Grammar) (ok : Proper g) where
+  pub first-kept : (p : ℕ) → p < g .prods → (m : Marks) → Inside (g .rules) (g .tokens) (both m) → Inside (g .rules) (g .tokens) (both (firstVisit g p m))
+  first-kept p lt m w r zero e = elim (or-split (m .empty r) _ e) [
     | inl k ↦ w r zero k
     | inr k ↦ (subst (λ x. x < g .rules) (sym (eqb-true r _ (and-split _ _ k .0))) (ok .owner p lt), ok .some-token)
   ]
-  kept p lt m w r (suc t) e = elim (or-split (m .first r t) _ e) [
+  first-kept p lt m w r (suc t) e = elim (or-split (m .first r t) _ e) [
     | inl k ↦ w r (suc t) k
     | inr k ↦
         let s = and-split (eqb r (g .owner p)) _ k in
-        (subst (λ x. x < g .rules) (sym (eqb-true r _ (s .0))) (ok .owner p lt), firstOf-inside m w (g .body p) (ok .token p lt) t (s .1))
+        (subst (λ x. x < g .rules) (sym (eqb-true r _ (s .0))) (ok .owner p lt), firstOf-all (λ t. suc t < g .tokens) m (λ r t k. w r (suc t) k .1) (g .body p) (ok .token p lt) t (s .1))
   ]
 
-  under : (p : ℕ) (m : Marks) → Under (both m) (both (firstVisit g p m))
-  under p m r zero e = or-left _ e
-  under p m r (suc t) e = or-left _ e
+  pub first-under : (p : ℕ) (m : Marks) → Under (both m) (both (firstVisit g p m))
+  first-under p m r zero e = or-left _ e
+  first-under p m r (suc t) e = or-left _ e
 
   none : Inside (g .rules) (g .tokens) (both firstCleared)
   none r zero e = absurd (false≢true e)
   none r (suc t) e = absurd (false≢true e)
 
-  pub first-marked : Marked (firstVisit g) (λ m. Inside (g .rules) (g .tokens) (both m)) (g .prods) (g .rules) (g .tokens)
+  unfoldable pub first-marked : Marked (firstVisit g) (λ m. Inside (g .rules) (g .tokens) (both m)) (g .prods) (g .rules) (g .tokens)
   first-marked = record {
     view = both;
-    kept = kept;
+    kept = first-kept;
     inside = λ m w. w;
-    under = under;
+    under = first-under;
     same = λ p m e i. record { first = λ r t. sym e i r (suc t); empty = λ r. sym e i r zero };
   }
 

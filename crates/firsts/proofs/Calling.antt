@@ -1,0 +1,140 @@
+-- What the returns of clear, visit and fill owe, from what `check` and the tests on the way answered.
+use mathlib.Core.Bool.{Bool, true, false, _||_}
+use mathlib.Core.List.{List}
+use mathlib.Core.Path.{_≡_, refl, sym, _∙_, ap, ap₂, subst}
+use Prim.Native.Nat.{ℕ, _+_, _-_, _*_, _/_, _≤_, _<_}
+use native.Mathlib.Omega.{arith}
+use lib.Dec.{leb}
+use lib.ListN.{length, replicate}
+use borrow.Author.Tests.{le-leb, lt-leb}
+use Rattle.theory.specs.Rounds.{run}
+use Rattle.theory.specs.Tables.{FirstExact}
+use Rattle.theory.specs.Visits.{Marks, firstVisit, firstCleared}
+use Rattle.theory.proofs.Bools.{or-none}
+use Rattle.theory.proofs.First.{first-any-order}
+use Rattle.grammar.specs.Flat.{Flat, flat, denoted}
+use Rattle.grammar.specs.Outcome.{Outcome, answers, refused}
+use Rattle.grammar.specs.Production.{checkedIs, checkOf, numberOf}
+use Rattle.grammar.specs.Well.{WellFormed}
+use Rattle.grammar.specs.declared.Checked.{Checked}
+use Rattle.grammar.specs.declared.Checked.the-variants.{Well, Refused}
+use Rattle.grammar.proofs.Denoted.{proper}
+use Rattle.grammar.proofs.Lowest.{after-well, after-refused}
+use Rattle.grammar.proofs.Well.{well}
+use Rattle.rows.specs.Marks.{mark, Small}
+use Rattle.rows.specs.Tables.{Sized, view}
+use Rattle.rows.proofs.Tables.{cleared-mark, cleared-sized, cleared-view}
+use Rattle.tables.specs.Answers.{visitedIs, filledIs, visitedOf}
+use Rattle.tables.specs.Call.{Call}
+use Rattle.tables.specs.Sizes.{words, tableWrong, rowWrong}
+use Rattle.tables.specs.declared.Visited.{Visited}
+use Rattle.tables.proofs.Asking.{table-long, row-long}
+use Rattle.tables.proofs.Calls.{call-refused, call-does, visited-is}
+use Rattle.firsts.specs.Lent.{Lent, lent, Held, Spared, marksOf}
+use Rattle.firsts.specs.Step.{Ready, Steps, Begun, Settled}
+use Rattle.firsts.specs.Calls.{lentWrong, fillDue, visitDue, zeros, Clears, Visits, Defined, Fills, Clear, Visit, Fill}
+use Rattle.firsts.proofs.Moving.{marks-same}
+
+one-row : (n : ℕ) → words n ≡ 1 * words n
+one-row n = omega arith
+
+-- zeros hold no mark
+pub zeros-marks : (g : Flat) → marksOf (g .rules) (length (g .costs)) (zeros g) ≡ firstCleared
+unfolding marksOf
+zeros-marks g = marks-same _ _
+    (λ r t. ap (λ z. z r t) (cleared-view (g .rules) (length (g .costs)) (words (length (g .costs))) (g .rules * words (length (g .costs)))))
+    (λ r. ap (λ z. z 0 r) (cleared-view 1 (g .rules) (words (g .rules)) (words (g .rules))))
+
+module _ (g : Flat) (first empty : List ℕ) (c : Checked) (is : checkedIs c ≡ checkOf g) where
+  -- a refused grammar
+  module _ (n m : ℕ) (e : c ≡ Refused n) (q : m ≡ numberOf c) where
+    pub clear-refused : Call (fillDue g (lent first empty)) (Clears g) (lent first empty) (refused m) (lent first empty)
+    clear-refused = rw (q, e) (call-refused n (after-refused g c _ n is e))
+
+    pub fill-refused : Call (fillDue g (lent first empty)) (Fills g) (lent first empty) (refused m) (lent first empty)
+    fill-refused = rw (q, e) (call-refused n (after-refused g c _ n is e))
+
+    pub visit-refused : (p : ℕ) → Call (visitDue g p (lent first empty)) (Visits g p (lent first empty)) (lent first empty) (refused m) (lent first empty)
+    visit-refused p = rw (q, e) (call-refused n (after-refused g c _ n is e))
+
+  module _ (e : c ≡ Well) (n : ℕ) (en : n ≡ g .rules) (x y : Bool) (ex : x ≡ tableWrong n (length (g .costs)) first) (ey : y ≡ rowWrong n empty) where
+    wrong : (x || y) ≡ lentWrong g (lent first empty)
+    wrong = rw (ex, ey, en)
+
+    -- 7
+    module _ (k : (x || y) ≡ true) where
+      pub clear-7 : Call (fillDue g (lent first empty)) (Clears g) (lent first empty) (refused 7) (lent first empty)
+      clear-7 = call-refused 7 (after-well g c _ is e ∙ rw (← wrong, k))
+
+      pub fill-7 : Call (fillDue g (lent first empty)) (Fills g) (lent first empty) (refused 7) (lent first empty)
+      fill-7 = call-refused 7 (after-well g c _ is e ∙ rw (← wrong, k))
+
+      pub visit-7 : (p : ℕ) → Call (visitDue g p (lent first empty)) (Visits g p (lent first empty)) (lent first empty) (refused 7) (lent first empty)
+      visit-7 p = call-refused 7 (after-well g c _ is e ∙ rw (← wrong, k))
+
+    module _ (k : (x || y) ≡ false) where
+      long-first : length first ≡ g .rules * words (length (g .costs))
+      long-first = table-long (g .rules) (length (g .costs)) first (ap (λ z. tableWrong z (length (g .costs)) first) (sym en) ∙ sym ex ∙ or-none x y k .0)
+
+      long-empty : length empty ≡ words (g .rules)
+      long-empty = row-long (g .rules) empty (ap (λ z. rowWrong z empty) (sym en) ∙ sym ey ∙ or-none x y k .1)
+
+      fill-due : fillDue g (lent first empty) ≡ answers tt
+      fill-due = after-well g c _ is e ∙ rw (← wrong, k)
+
+      formed : WellFormed g
+      formed = well g (sym is ∙ ap checkedIs e)
+
+      -- `clear`
+      module _ (f′ e′ : List ℕ) (cf : f′ ≡ replicate (length first) 0) (ce : e′ ≡ replicate (length empty) 0) where
+        cleared : lent f′ e′ ≡ zeros g
+        cleared = ap₂ lent (cf ∙ ap (λ z. replicate z 0) long-first) (ce ∙ ap (λ z. replicate z 0) long-empty)
+
+        pub clear-does : Call (fillDue g (lent first empty)) (Clears g) (lent first empty) (answers tt) (lent f′ e′)
+        clear-does = call-does (answers tt) (lent f′ e′) fill-due (record { done = refl; cleared = cleared })
+
+        zeros-held : Held (g .rules) (length (g .costs)) (zeros g)
+        zeros-held = record { first = cleared-sized (g .rules) (words (length (g .costs))); empty = subst (λ z. Sized 1 (words (g .rules)) (replicate z 0)) (sym (one-row (g .rules))) (cleared-sized 1 (words (g .rules))) }
+
+        pub fill-begun : Begun g (lent f′ e′)
+        fill-begun = subst (λ z. Begun g z) (sym cleared) (record { well = formed; held = zeros-held; no-eof = λ r. ap (λ z. z .first r (length (g .costs) - 1)) (zeros-marks g) })
+
+        -- `fill`
+        module _ (f″ e″ : List ℕ) (s : Settled g (lent f′ e′) (lent f″ e″)) where
+          start : Settled g (zeros g) (lent f″ e″)
+          start = subst (λ z. Settled g z (lent f″ e″)) cleared s
+
+          exact : FirstExact (denoted g) (marksOf (g .rules) (length (g .costs)) (lent f″ e″))
+          exact =
+              let r : marksOf (g .rules) (length (g .costs)) (lent f″ e″) ≡ run (firstVisit (denoted g)) (start .visits) firstCleared =
+                  start .ran ∙ ap (run (firstVisit (denoted g)) (start .visits)) (zeros-marks g) in
+              rw r (first-any-order (denoted g) (proper g formed) .exact (start .visits) (start .valid) (rw r at (start .rest)))
+
+          defined : Defined g (lent f″ e″)
+          defined = record {
+            held = start .keeps .held zeros-held;
+            exact = exact;
+            first-spare = λ r t lr le lt. start .keeps .first r t lr le lt ∙ cleared-mark (words (length (g .costs))) (g .rules * words (length (g .costs))) r t;
+            empty-spare = λ r le lt. start .keeps .empty r le lt ∙ cleared-mark (words (g .rules)) (words (g .rules)) 0 r;
+          }
+
+          pub fill-does : Call (fillDue g (lent first empty)) (Fills g) (lent first empty) (answers tt) (lent f″ e″)
+          fill-does = call-does (answers tt) (lent f″ e″) fill-due (record { done = refl; defined = defined })
+
+      -- `visit`
+      module _ (p q : ℕ) (eq : q ≡ p) where
+        pub visit-11 : length (g .owners) ≤ q → Call (visitDue g p (lent first empty)) (Visits g p (lent first empty)) (lent first empty) (refused 11) (lent first empty)
+        visit-11 l = call-refused 11 (after-well g c _ is e ∙ rw (← wrong, k, le-leb (length (g .owners)) p (omega arith)))
+
+        module _ (l : q < length (g .owners)) where
+          pub visit-ready : Small first → Small empty → Ready g q (lent first empty)
+          visit-ready sf se = record {
+            well = formed;
+            isProd = l;
+            held = record { first = record { len = long-first; small = sf }; empty = record { len = long-empty ∙ one-row (g .rules); small = se } };
+          }
+
+          pub visit-does : (changed : Bool) (r : Visited) (f′ e′ : List ℕ) → Steps g q (lent first empty) changed (lent f′ e′) → r ≡ visitedOf changed
+              → Call (visitDue g p (lent first empty)) (Visits g p (lent first empty)) (lent first empty) (visitedIs r) (lent f′ e′)
+          visit-does changed r f′ e′ s h = call-does (visitedIs r) (lent f′ e′) (after-well g c _ is e ∙ rw (← wrong, k, lt-leb (length (g .owners)) p (omega arith)))
+              (record { changed = changed; told = visited-is changed r h; steps = subst (λ z. Steps g z (lent first empty) changed (lent f′ e′)) eq s })

@@ -1,0 +1,81 @@
+-- Calls that change lent memory: a refusal, an answer, and that a promise allows one result.
+use mathlib.Core.Bool.{Bool, true, false, _||_}
+use mathlib.Core.List.{List}
+use mathlib.Core.Path.{_≡_, refl, sym, _∙_, ap}
+use Prim.Native.Nat.{ℕ}
+use native.Mathlib.Omega.{arith}
+use Rattle.grammar.specs.Outcome.{Outcome, answers, refused}
+use Rattle.tables.specs.declared.Asked.{Asked}
+use Rattle.tables.specs.declared.Asked.the-variants.{Yes, No, Refused as NotAsked}
+use Rattle.tables.specs.declared.Visited.{Visited}
+use Rattle.tables.specs.declared.Visited.the-variants.{Changed, Same, Refused as NotVisited}
+use Rattle.tables.specs.declared.Filled.{Filled}
+use Rattle.tables.specs.declared.Filled.the-variants.{Done, Refused as NotFilled}
+use Rattle.tables.specs.Answers.{askedIs, visitedIs, filledIs, visitedOf}
+use Rattle.tables.specs.Call.{Call}
+
+module _ {A : Type 0} where
+  not-both : {x : A} {n : ℕ} → answers x ≡ refused n → ⊥
+  not-both e = let z : _≡_ {A = ℕ} 0 1 = cc in omega arith
+
+  refused-one : {m n : ℕ} → _≡_ {A = Outcome A} (refused m) (refused n) → m ≡ n
+  refused-one e = cc
+
+module _ {A M : Type 0} {due : Outcome (Unit {0})} {Does : Outcome A → M → Type 0} {before : M} where
+  pub call-refused : (n : ℕ) → due ≡ refused n → Call due Does before (refused n) before
+  call-refused n e = record {
+    refuses = λ m k. ap refused (refused-one (sym e ∙ k));
+    keeps = λ m k. refl;
+    does = λ k. absurd (not-both (sym k ∙ e));
+  }
+
+  pub call-does : (said : Outcome A) (after : M) → due ≡ answers tt → Does said after → Call due Does before said after
+  call-does said after e d = record {
+    refuses = λ n k. absurd (not-both (sym e ∙ k));
+    keeps = λ n k. absurd (not-both (sym e ∙ k));
+    does = λ k. d;
+  }
+
+-- two results of a call
+pub record Both {A M : Type 0} (s t : Outcome A) (a b : M) : Type 0 where
+  pub said : s ≡ t
+  pub left : a ≡ b
+
+-- where what a call does is one result, so is what its promise allows
+pub call-one : {A M : Type 0} {Does : Outcome A → M → Type 0} {before : M} → ((s t : Outcome A) (a b : M) → Does s a → Does t b → Both s t a b)
+    → (due : Outcome (Unit {0})) {s t : Outcome A} {a b : M} → Call due Does before s a → Call due Does before t b → Both s t a b
+call-one h (answers tt) {s} {t} {a} {b} x y = h s t a b (x .does refl) (y .does refl)
+call-one h (refused n) x y = record { said = x .refuses n refl ∙ sym (y .refuses n refl); left = x .keeps n refl ∙ sym (y .keeps n refl) }
+
+-- answers are told apart
+pub asked-one : (a b : Asked) → askedIs a ≡ askedIs b → a ≡ b
+asked-one Yes Yes e = refl
+asked-one Yes No e = let z : _≡_ {A = ℕ} 0 1 = cc in absurd (omega arith)
+asked-one Yes (NotAsked n) e = absurd (not-both e)
+asked-one No Yes e = let z : _≡_ {A = ℕ} 0 1 = cc in absurd (omega arith)
+asked-one No No e = refl
+asked-one No (NotAsked n) e = absurd (not-both e)
+asked-one (NotAsked m) Yes e = absurd (not-both (sym e))
+asked-one (NotAsked m) No e = absurd (not-both (sym e))
+asked-one (NotAsked m) (NotAsked n) e = ap NotAsked (refused-one e)
+
+pub visited-one : (a b : Visited) → visitedIs a ≡ visitedIs b → a ≡ b
+visited-one Changed Changed e = refl
+visited-one Changed Same e = let z : _≡_ {A = ℕ} 0 1 = cc in absurd (omega arith)
+visited-one Changed (NotVisited n) e = absurd (not-both e)
+visited-one Same Changed e = let z : _≡_ {A = ℕ} 0 1 = cc in absurd (omega arith)
+visited-one Same Same e = refl
+visited-one Same (NotVisited n) e = absurd (not-both e)
+visited-one (NotVisited m) Changed e = absurd (not-both (sym e))
+visited-one (NotVisited m) Same e = absurd (not-both (sym e))
+visited-one (NotVisited m) (NotVisited n) e = ap NotVisited (refused-one e)
+
+pub filled-one : (a b : Filled) → filledIs a ≡ filledIs b → a ≡ b
+filled-one Done Done e = refl
+filled-one Done (NotFilled n) e = absurd (not-both e)
+filled-one (NotFilled m) Done e = absurd (not-both (sym e))
+filled-one (NotFilled m) (NotFilled n) e = ap NotFilled (refused-one e)
+
+pub visited-is : (b : Bool) (r : Visited) → r ≡ visitedOf b → visitedIs r ≡ answers b
+visited-is true r e = rw e
+visited-is false r e = rw e

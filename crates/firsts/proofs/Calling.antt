@@ -107,7 +107,7 @@ module _ (g : Flat) (first empty : List ℕ) (c : Checked) (is : checkedIs c ≡
           exact : FirstExact (denoted g) (marksOf (g .rules) (length (g .costs)) (lent f″ e″))
           exact =
               let r : marksOf (g .rules) (length (g .costs)) (lent f″ e″) ≡ run (firstVisit (denoted g)) (start .visits) firstCleared =
-                  start .ran ∙ ap (run (firstVisit (denoted g)) (start .visits)) (zeros-marks g) in
+              start .ran ∙ ap (run (firstVisit (denoted g)) (start .visits)) (zeros-marks g) in
               rw r (first-any-order (denoted g) (proper g formed) .exact (start .visits) (start .valid) (rw r at (start .rest)))
 
           defined : Defined g (lent f″ e″)

@@ -44,7 +44,7 @@ clear-requires-2 : tie.Need-clear-requires-2
 clear-requires-2 c κs = search needs
 
 settle-requires : tie.Need-settle-requires
-settle-requires c κs = search (needs, fill-begun)
+settle-requires c κs = let e = c .before .before .before .before in let f = e .before .before .before .before in let d = f .before .before in let r = d .before in let t = r .before .before in let w = t .before .before in let m = w .before in let k = m .before .before in fill-begun _ _ _ _ (k .check .ensures) (m .enum-told .given .1) _ (w .wide .ensures .0) _ _ (t .table-wrong .ensures) (r .row-wrong .ensures) (d .if1 .left) _ _ (f .clear .ensures) (e .clear2 .ensures)
 
 same-length-3 : tie.Need-same-length-3
 same-length-3 c = search needs

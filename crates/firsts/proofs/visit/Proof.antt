@@ -50,7 +50,7 @@ returns-3 : tie.Need-returns-3
 returns-3 c = search (needs, visit-11)
 
 step-requires : tie.Need-step-requires
-step-requires c κs = search (needs, visit-ready)
+step-requires c κs = let d = c .before .before in let v = d .before in let r = v .before .before in let t = r .before .before in let w = t .before .before in let m = w .before in let k = m .before .before in visit-ready _ _ _ _ (k .check .ensures) (m .enum-told .given .1) _ (w .wide .ensures .0) _ _ (t .table-wrong .ensures) (r .row-wrong .ensures) (v .before .if1 .left) _ _ (v .wide2 .ensures .0) (d .if2 .left) (λ i. k .before .before .slice-known .given i .fits) (λ i. k .before .slice-known2 .given i .fits)
 
 visited-requires : tie.Need-visited-requires
 visited-requires c κs = search needs

@@ -1,6 +1,9 @@
 pub mod Bools
+pub mod Below
+pub mod Parts
 pub mod Yields
 pub mod Rounds
+pub mod Fills
 pub mod Count
 pub mod First
 pub mod Follow

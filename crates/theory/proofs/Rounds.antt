@@ -105,20 +105,20 @@ pub record Climb {S : Type 0} (step : ℕ → S → S) (Inv : S → Type 0) (P t
 
 module _ {S : Type 0} {step : ℕ → S → S} {Inv : S → Type 0} {P top : ℕ} (c : Climb step Inv P top) where
   -- a list of visits in which none changes anything, or the size has grown
-  run-grows : (v : List ℕ) → Valid P v → (s : S) → Inv s → ((p : ℕ) → List·Memᴰ p v → step p s ≡ s) ⊎ (c .size s < c .size (run step v s))
-  run-grows [] h s i = inl (λ p k. absurd (List·Memᴰ·not-nil k))
+  pub run-grows : (v : List ℕ) → Valid P v → (s : S) → Inv s → (((p : ℕ) → List·Memᴰ p v → step p s ≡ s) × (run step v s ≡ s)) ⊎ (c .size s < c .size (run step v s))
+  run-grows [] h s i = inl ((λ p k. absurd (List·Memᴰ·not-nil k)), refl)
   run-grows (p ∷ v) h s i =
       go (c .grows p (h p (List·Memᴰ·head refl)) s i) (run-grows v (λ q k. h q (List·Memᴰ·tail k)) (step p s) (c .kept p (h p (List·Memᴰ·head refl)) s i))
     where
-      go : (step p s ≡ s) ⊎ (c .size s < c .size (step p s)) → ((q : ℕ) → List·Memᴰ q v → step q (step p s) ≡ step p s) ⊎ (c .size (step p s) < c .size (run step v (step p s)))
-          → ((q : ℕ) → List·Memᴰ q (p ∷ v) → step q s ≡ s) ⊎ (c .size s < c .size (run step v (step p s)))
-      go (inl e) (inl k) = inl (λ q m. elim (List·Memᴰ·cases-cons m) [ inl d ↦ rw d e | inr n ↦ rw e at (k q n) ])
+      go : (step p s ≡ s) ⊎ (c .size s < c .size (step p s)) → (((q : ℕ) → List·Memᴰ q v → step q (step p s) ≡ step p s) × (run step v (step p s) ≡ step p s)) ⊎ (c .size (step p s) < c .size (run step v (step p s)))
+          → (((q : ℕ) → List·Memᴰ q (p ∷ v) → step q s ≡ s) × (run step v (step p s) ≡ s)) ⊎ (c .size s < c .size (run step v (step p s)))
+      go (inl e) (inl k) = inl ((λ q m. elim (List·Memᴰ·cases-cons m) [ inl d ↦ rw d e | inr n ↦ rw e at (k .0 q n) ]), k .1 ∙ e)
       go (inl e) (inr lt) = inr (subst (λ z. c .size z < c .size (run step v (step p s))) e lt)
-      go (inr lt) (inl k) = inr (rw (run-still step (step p s) v k) lt)
+      go (inr lt) (inl k) = inr (rw (k .1) lt)
       go (inr lt) (inr lt′) = inr (omega arith)
 
   round-grows : (v : List ℕ) → Round P v → (s : S) → Inv s → Rest step P s ⊎ (c .size s < c .size (run step v s))
-  round-grows v rd s i = elim (run-grows v (rd .valid) s i) [ inl k ↦ inl (λ p lt. k p (rd .all p lt)) | inr lt ↦ inr lt ]
+  round-grows v rd s i = elim (run-grows v (rd .valid) s i) [ inl k ↦ inl (λ p lt. k .0 p (rd .all p lt)) | inr lt ↦ inr lt ]
 
   rest-still : (v : List ℕ) → Round P v → (s : S) → Rest step P s → run step v s ≡ s
   rest-still v rd s r = run-still step s v (λ p m. r p (rd .valid p m))

@@ -4,5 +4,6 @@ pub mod Definitions
 pub mod Follow
 pub mod Visits
 pub mod Rounds
+pub mod Fills
 pub mod Tables
 pub mod Sentences

@@ -3,3 +3,4 @@ pub mod Stepping
 pub mod Moving
 pub mod Rounding
 pub mod Calling
+pub mod Determined

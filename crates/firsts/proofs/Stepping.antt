@@ -1,5 +1,5 @@
 -- One production's step: what it asks of the walk, and what it leaves.
-use mathlib.Core.Bool.{Bool, true, false, not, _&&_, _||_, or-false, and-false, false≢true, true≢false}
+use mathlib.Core.Bool.{and-true, Bool, true, false, not, _&&_, _||_, or-false, and-false, false≢true, true≢false}
 use mathlib.Core.List.{List}
 use mathlib.Core.Logic.{inl, inr}
 use mathlib.Core.Path.{_≡_, refl, sym, ap, ap₂, _∙_, subst}
@@ -99,13 +99,9 @@ module _ (g : Flat) (p : ℕ) (l : Lent) (ok : Ready g p l) (a e o : ℕ) (eo : 
 
     marks-it : Became 1 (g .rules) (words (g .rules)) (l .empty) empty (λ _ r. firstVisit (denoted g) p m .empty r)
     marks-it = became-as 1 (g .rules) (words (g .rules)) (l .empty) empty _ _
-        (λ q r lq lr. own q lq r ∙ row-zero (λ r. eqb r o) (λ r lr. rw (eo, k) (one (eqb r (at (g .owners) p)))) q lq r lr)
+        (λ q r lq lr. own q lq r ∙ row-zero (λ r. eqb r o) (λ r lr. rw (eo, k) (sym (and-true (eqb r (at (g .owners) p))))) q lq r lr)
         (raised-became 1 (g .rules) (words (g .rules)) (l .empty) empty 0 (λ r. eqb r o) got (omega arith) raised (ok .held .empty))
       where
-        one : (b : Bool) → b ≡ (b && true)
-        one true = refl
-        one false = refl
-
         own : (q : ℕ) → q < 1 → (r : ℕ) → (view 1 (g .rules) (words (g .rules)) (l .empty) q r || (eqb q 0 && eqb r o)) ≡ (view 1 (g .rules) (words (g .rules)) (l .empty) q r || eqb r o)
         own zero lq r = refl
         own (suc q) lq r = absurd (omega arith)

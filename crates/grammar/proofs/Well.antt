@@ -3,6 +3,7 @@ use mathlib.Core.Bool.{Bool, true, false, not, _&&_, _||_, cond}
 use mathlib.Core.List.{List}
 use mathlib.Core.Path.{_≡_, refl, sym, ap}
 use Prim.Native.Nat.{ℕ, zero, suc, _+_, _-_, _<_, _≤_}
+use native.Mathlib.Numerals.{add-one}
 use native.Mathlib.Omega.{arith}
 use lib.Dec.{eqb, leb, ltb}
 use lib.ListN.{length}
@@ -64,6 +65,21 @@ laid-upto {P} {N} {p} {starts} l h = down P N starts l (P - p) p (omega arith)
 -- and where production p ends
 pub laid-end : {P N p : ℕ} {starts : List ℕ} → Laid P N starts → p < P → at starts (p + 1) ≤ N
 laid-end l h = laid-upto l (omega arith)
+
+-- each symbol stands in a production, so that a rule among the symbols is one that a production holds
+module _ (P N : ℕ) (starts : List ℕ) (l : Laid P N starts) (k : ℕ) where
+  found-below : (n : ℕ) → k < at starts n → (p : ℕ) × (p < n) × (at starts p ≤ k) × (k < at starts (p + 1))
+  found-below zero h = absurd (omega (arith, l .first))
+  found-below (suc n) h =
+      let rest : k < at starts n → (p : ℕ) × (p < n) × (at starts p ≤ k) × (k < at starts (p + 1)) = found-below n in
+      from (ltb k (at starts n)) refl rest
+    where
+      from : (b : Bool) → ltb k (at starts n) ≡ b → (k < at starts n → (p : ℕ) × (p < n) × (at starts p ≤ k) × (k < at starts (p + 1))) → (p : ℕ) × (p < suc n) × (at starts p ≤ k) × (k < at starts (p + 1))
+      from true q rest = let r = rest (ltb-true _ _ q) in (r .0, omega (arith, r .1), r .2, r .3)
+      from false q rest = (n, omega arith, ltb-false _ _ q, omega (arith, h, ap (λ (j : ℕ). at starts j) (add-one n)))
+
+  pub laid-found : k < N → (p : ℕ) × (p < P) × (at starts p ≤ k) × (k < at starts (p + 1))
+  laid-found h = found-below P (omega (arith, l .last))
 
 -- 3 is not due
 pub owner-in : (R : ℕ) (owners : List ℕ) (p w : ℕ) → ownerOut R owners ≡ false → p < length owners → w ≡ at owners p → w < R

@@ -1,5 +1,5 @@
 -- What `join_one` leaves, and the turns of `join`.
-use mathlib.Core.Bool.{Bool, true, false, _&&_, _||_, not, cond, or-false, and-false}
+use mathlib.Core.Bool.{and-true, Bool, true, false, _&&_, _||_, not, cond, or-false, and-false}
 use mathlib.Core.List.{List}
 use mathlib.Core.Path.{_≡_, refl, sym, _∙_}
 use Prim.Native.Nat.{ℕ, _+_, _*_, _≤_, _<_}
@@ -8,6 +8,7 @@ use native.Mathlib.Omega.{arith}
 use lib.Dec.{eqb, ltb}
 use lib.ListN.{length}
 use borrow.Author.Tests.{lt-ltb, le-ltb, eq-eqb, ne-eqb}
+use Rattle.theory.proofs.Below.{below-more}
 use Rattle.rows.specs.Marks.{place, mark, marked, JoinedOne, Small, Raised, Rows}
 use Rattle.rows.proofs.Raise.{raised-as, raised-none, raised-mark, raised-then}
 
@@ -17,10 +18,6 @@ module _ (W : ℕ) (ws : List ℕ) (a b t : ℕ) (m : Bool) (is : m ≡ mark W w
 
   pub one-is : (new : Bool) (to : List ℕ) → m ≡ true → new ≡ not (mark W ws b t) → to ≡ marked W ws b t → JoinedOne W ws a b t new to
   one-is new to e p q = record { told = p ∙ simp (sym is ∙ e); left = q ∙ simp (sym is ∙ e) }
-
-and-one : (b : Bool) → b ≡ (b && true)
-and-one true = refl
-and-one false = refl
 
 -- the marks below i are joined
 pub record Joining (T W : ℕ) (ws to : List ℕ) (a b i : ℕ) (new : Bool) : Type 0 where
@@ -35,7 +32,7 @@ module _ (T W : ℕ) (ws : List ℕ) (a b : ℕ) where
   one-raised to t new wide s inside lt x = rw (x .left, x .told) (go (mark W ws a t))
     where
       go : (m : Bool) → Raised T W ws (cond m (marked W ws b t) ws) b (λ u. eqb u t && m) (m && not (mark W ws b t))
-      go true = raised-as (λ u. eqb u t && true) (λ u lu. and-one (eqb u t)) (raised-mark T W ws b t wide s inside lt)
+      go true = raised-as (λ u. eqb u t && true) (λ u lu. sym (and-true (eqb u t))) (raised-mark T W ws b t wide s inside lt)
       go false = raised-none (λ u. eqb u t && false) s (λ u lu. and-false (eqb u t))
 
   pub join-end : (to : List ℕ) (i : ℕ) (new : Bool) → Joining T W ws to a b i new → T ≤ i → Raised T W ws to b (mark W ws a) new
@@ -46,22 +43,10 @@ module _ (T W : ℕ) (ws : List ℕ) (a b : ℕ) (rows : Rows T W ws a b) where
   unread : (now : List ℕ) (i : ℕ) (new : Bool) → i < T → Joining T W ws now a b i new → mark W now a i ≡ mark W ws a i
   unread now i new lt x = x .raised .marks a i (omega arith) ∙ rw (le-ltb i i (omega arith), and-false (ltb i T), and-false (eqb a b)) (or-false (mark W ws a i))
 
-  one-more : (t i : ℕ) → ((ltb t i && mark W ws a t) || (eqb t i && mark W ws a i)) ≡ (ltb t (i + 1) && mark W ws a t)
-  one-more t i = go (ℕ-discrete t i) (decLt t i)
-    where
-      go : Dec (t ≡ i) → Dec (t < i) → ((ltb t i && mark W ws a t) || (eqb t i && mark W ws a i)) ≡ (ltb t (i + 1) && mark W ws a t)
-      go (yes q) l = rw (q, le-ltb i i (omega arith), eq-eqb i i refl, lt-ltb i (i + 1) (omega arith))
-      go (no q) (yes l) = rw (lt-ltb t i l, ne-eqb t i q, lt-ltb t (i + 1) (omega arith)) (or-false (mark W ws a t))
-      go (no q) (no l) = rw (le-ltb t i (omega arith), ne-eqb t i q, le-ltb t (i + 1) (past (decLt i t)))
-        where
-          past : Dec (i < t) → i + 1 ≤ t
-          past (yes p) = omega arith
-          past (no p) = absurd (q (omega arith))
-
   pub join-on : (now next : List ℕ) (i : ℕ) (x y : Bool) → Joining T W ws now a b i x → i < T → JoinedOne W now a b i y next → Joining T W ws next a b (i + 1) (x || y)
   join-on now next i x y j lt one = record {
     high = omega arith;
     raised =
-        raised-as (λ t. ltb t (i + 1) && mark W ws a t) (λ t l. rw (unread now i x lt j) (one-more t i))
+        raised-as (λ t. ltb t (i + 1) && mark W ws a t) (λ t l. rw (unread now i x lt j) (below-more (mark W ws a) t i))
         (raised-then (omega arith) (j .raised) (one-raised T W now a b next i y (omega arith) (j .raised .small) (omega arith) lt one));
   }

@@ -9,13 +9,9 @@ use native.Mathlib.Omega.{arith}
 use lib.Dec.{eqb, ltb}
 use lib.ListN.{length}
 use borrow.Author.Tests.{lt-ltb, le-ltb, eq-eqb, ne-eqb, not-true, not-false}
-use Rattle.theory.proofs.Bools.{or-split}
+use Rattle.theory.proofs.Bools.{or-split, or-none}
 use Rattle.rows.specs.Marks.{place, mark, marked, Small, Raised}
 use Rattle.rows.proofs.Marks.{mark-set, marked-long, marked-small, marked-same}
-
-or-both : (a b : Bool) → (a || b) ≡ false → (a ≡ false) × (b ≡ false)
-or-both true b e = absurd (true≢false e)
-or-both false b e = (refl, e)
 
 twice : (m e l f g : Bool) → ((m || (e && (l && f))) || (e && (l && g))) ≡ (m || (e && (l && (f || g))))
 twice true e l f g = refl
@@ -87,11 +83,11 @@ raised-then {T} {W} {ws} {mid} {to} {o} {f} {g} {a} {b} wide x y = record {
     | inr k ↦ let w = y .told k in record {
       at = w .at;
       below = w .below;
-      was = or-both _ _ (sym (x .marks o (w .at) (omega (arith, w .below))) ∙ w .was) .0;
+      was = or-none _ _ (sym (x .marks o (w .at) (omega (arith, w .below))) ∙ w .was) .0;
       is = w .is;
     }
   ];
-  still = λ e. y .still (or-both a b e .1) ∙ x .still (or-both a b e .0);
+  still = λ e. y .still (or-none a b e .1) ∙ x .still (or-none a b e .0);
 }
 
 -- a row: row r, read after row o has grown, counts as it was at entry, also where it is row o

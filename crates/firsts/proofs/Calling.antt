@@ -45,6 +45,12 @@ zeros-marks g = marks-same _ _
     (λ r t. ap (λ z. z r t) (cleared-view (g .rules) (length (g .costs)) (words (length (g .costs))) (g .rules * words (length (g .costs)))))
     (λ r. ap (λ z. z 0 r) (cleared-view 1 (g .rules) (words (g .rules)) (words (g .rules))))
 
+pub zeros-held : (g : Flat) → Held (g .rules) (length (g .costs)) (zeros g)
+zeros-held g = record {
+  first = cleared-sized (g .rules) (words (length (g .costs)));
+  empty = subst (λ z. Sized 1 (words (g .rules)) (replicate z 0)) (sym (one-row (g .rules))) (cleared-sized 1 (words (g .rules)));
+}
+
 module _ (g : Flat) (first empty : List ℕ) (c : Checked) (is : checkedIs c ≡ checkOf g) where
   -- a refused grammar
   module _ (n m : ℕ) (e : c ≡ Refused n) (q : m ≡ numberOf c) where
@@ -93,11 +99,8 @@ module _ (g : Flat) (first empty : List ℕ) (c : Checked) (is : checkedIs c ≡
         pub clear-does : Call (fillDue g (lent first empty)) (Clears g) (lent first empty) (answers tt) (lent f′ e′)
         clear-does = call-does (answers tt) (lent f′ e′) fill-due (record { done = refl; cleared = cleared })
 
-        zeros-held : Held (g .rules) (length (g .costs)) (zeros g)
-        zeros-held = record { first = cleared-sized (g .rules) (words (length (g .costs))); empty = subst (λ z. Sized 1 (words (g .rules)) (replicate z 0)) (sym (one-row (g .rules))) (cleared-sized 1 (words (g .rules))) }
-
         pub fill-begun : Begun g (lent f′ e′)
-        fill-begun = subst (λ z. Begun g z) (sym cleared) (record { well = formed; held = zeros-held; no-eof = λ r. ap (λ z. z .first r (length (g .costs) - 1)) (zeros-marks g) })
+        fill-begun = subst (λ z. Begun g z) (sym cleared) (record { well = formed; held = zeros-held g; no-eof = λ r. ap (λ z. z .first r (length (g .costs) - 1)) (zeros-marks g) })
 
         -- `fill`
         module _ (f″ e″ : List ℕ) (s : Settled g (lent f′ e′) (lent f″ e″)) where
@@ -112,7 +115,7 @@ module _ (g : Flat) (first empty : List ℕ) (c : Checked) (is : checkedIs c ≡
 
           defined : Defined g (lent f″ e″)
           defined = record {
-            held = start .keeps .held zeros-held;
+            held = start .keeps .held (zeros-held g);
             exact = exact;
             first-spare = λ r t lr le lt. start .keeps .first r t lr le lt ∙ cleared-mark (words (length (g .costs))) (g .rules * words (length (g .costs))) r t;
             empty-spare = λ r le lt. start .keeps .empty r le lt ∙ cleared-mark (words (g .rules)) (words (g .rules)) 0 r;

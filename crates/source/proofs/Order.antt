@@ -56,6 +56,9 @@ by-rules g (r ∷ rs) = rule-to-prods g r ++ by-rules g rs
 pub prods-in : (g : Grammar) (r p : ℕ) → List·Memᴰ p (rule-to-prods g r) → (g .owner p ≡ r) × (p < g .prods)
 prods-in g r p m = let i = owned-in g r (rising (g .prods) 0) p m in (i .0, omega (arith, rising-in (g .prods) 0 p (i .1)))
 
+pub prods-all : (g : Grammar) (r p : ℕ) → p < g .prods → g .owner p ≡ r → List·Memᴰ p (rule-to-prods g r)
+prods-all g r p lt o = owned-all g r (rising (g .prods) 0) p o (rising-all (g .prods) 0 p (omega arith) (omega arith))
+
 by-rules-in : (g : Grammar) (rs : List ℕ) (p : ℕ) → List·Memᴰ p (by-rules g rs) → p < g .prods
 by-rules-in g [] p m = absurd (List·Memᴰ·not-nil m)
 by-rules-in g (r ∷ rs) p m =
@@ -67,7 +70,7 @@ by-rules-all g [] p lt m = absurd (List·Memᴰ·not-nil m)
 by-rules-all g (r ∷ rs) p lt m =
     let ih : List·Memᴰ (g .owner p) rs → List·Memᴰ p (by-rules g rs) = λ n. by-rules-all g rs p lt n in
     elim (List·Memᴰ·cases-cons m) [
-      | inl d ↦ Memᴰ·append-left (by-rules g rs) (owned-all g r (rising (g .prods) 0) p d (rising-all (g .prods) 0 p (omega arith) (omega arith)))
+      | inl d ↦ Memᴰ·append-left (by-rules g rs) (prods-all g r p lt d)
       | inr n ↦ Memᴰ·append-right (rule-to-prods g r) (ih n)
     ]
 

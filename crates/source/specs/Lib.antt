@@ -1,2 +1,3 @@
 pub mod Order
 pub mod Firsts
+pub mod Costs

@@ -1,3 +1,4 @@
 pub mod Order
 pub mod Firsts
 pub mod Costs
+pub mod Paths

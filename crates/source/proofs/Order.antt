@@ -59,6 +59,9 @@ prods-in g r p m = let i = owned-in g r (rising (g .prods) 0) p m in (i .0, omeg
 pub prods-all : (g : Grammar) (r p : ℕ) → p < g .prods → g .owner p ≡ r → List·Memᴰ p (rule-to-prods g r)
 prods-all g r p lt o = owned-all g r (rising (g .prods) 0) p o (rising-all (g .prods) 0 p (omega arith) (omega arith))
 
+pub rules-all : (g : Grammar) (r : ℕ) → r < g .rules → List·Memᴰ r (iter-rules g)
+rules-all g r lt = rising-all (g .rules) 0 r (omega arith) (omega arith)
+
 by-rules-in : (g : Grammar) (rs : List ℕ) (p : ℕ) → List·Memᴰ p (by-rules g rs) → p < g .prods
 by-rules-in g [] p m = absurd (List·Memᴰ·not-nil m)
 by-rules-in g (r ∷ rs) p m =
@@ -77,5 +80,5 @@ by-rules-all g (r ∷ rs) p lt m =
 pub by-rules-round : (g : Grammar) → Proper g → Round (g .prods) (by-rules g (iter-rules g))
 by-rules-round g ok = record {
   valid = by-rules-in g (iter-rules g);
-  all = λ p lt. by-rules-all g (iter-rules g) p lt (rising-all (g .rules) 0 (g .owner p) (omega arith) (omega (arith, ok .owner p lt)));
+  all = λ p lt. by-rules-all g (iter-rules g) p lt (rules-all g (g .owner p) (ok .owner p lt));
 }

@@ -19,6 +19,10 @@ pub data Chain (g : Grammar) : ℕ → ℕ → Type 0 where
   one : {a b : ℕ} → Uses g a b → Chain g a b
   link : {a b c : ℕ} → Uses g a b → Chain g b c → Chain g a c
 
+pub chain-snoc : {g : Grammar} {a b c : ℕ} → Chain g a b → Uses g b c → Chain g a c
+chain-snoc (one u) v = link u (one v)
+chain-snoc (link u x) v = link u (chain-snoc x v)
+
 split-mem : (x : Sym) (α : Form) → List·Memᴰ x α → (u : Form) × (v : Form) × (α ≡ u ++ (x ∷ v))
 split-mem x [] m = absurd (List·Memᴰ·not-nil m)
 split-mem x (y ∷ α) m =

@@ -11,7 +11,7 @@ use Rattle.tables.specs.declared.Visited.{Visited}
 use Rattle.tables.specs.declared.Visited.the-variants.{Changed, Same, Refused as NotVisited}
 use Rattle.tables.specs.declared.Filled.{Filled}
 use Rattle.tables.specs.declared.Filled.the-variants.{Done, Refused as NotFilled}
-use Rattle.tables.specs.Answers.{askedIs, visitedIs, filledIs, visitedOf}
+use Rattle.tables.specs.Answers.{askedIs, visitedIs, filledIs, askedOf, visitedOf}
 use Rattle.tables.specs.Call.{Call}
 
 module _ {A : Type 0} where
@@ -47,34 +47,44 @@ pub call-one : {A M : Type 0} {Does : Outcome A → M → Type 0} {before : M} �
 call-one h (answers tt) {s} {t} {a} {b} x y = h s t a b (x .does refl) (y .does refl)
 call-one h (refused n) x y = record { said = x .refuses n refl ∙ sym (y .refuses n refl); left = x .keeps n refl ∙ sym (y .keeps n refl) }
 
--- answers are told apart
+-- answers are told apart: each is read back from its outcome
+told-apart : {A B : Type 0} (is : A → Outcome B) (back : Outcome B → A) → ((a : A) → back (is a) ≡ a) → (a b : A) → is a ≡ is b → a ≡ b
+told-apart is back h a b e = sym (h a) ∙ ap back e ∙ h b
+
 pub asked-one : (a b : Asked) → askedIs a ≡ askedIs b → a ≡ b
-asked-one Yes Yes e = refl
-asked-one Yes No e = let z : _≡_ {A = ℕ} 0 1 = cc in absurd (omega arith)
-asked-one Yes (NotAsked n) e = absurd (not-both e)
-asked-one No Yes e = let z : _≡_ {A = ℕ} 0 1 = cc in absurd (omega arith)
-asked-one No No e = refl
-asked-one No (NotAsked n) e = absurd (not-both e)
-asked-one (NotAsked m) Yes e = absurd (not-both (sym e))
-asked-one (NotAsked m) No e = absurd (not-both (sym e))
-asked-one (NotAsked m) (NotAsked n) e = ap NotAsked (refused-one e)
+asked-one = told-apart askedIs back same
+  where
+    back : Outcome Bool → Asked
+    back (answers b) = askedOf b
+    back (refused n) = NotAsked n
+
+    same : (a : Asked) → back (askedIs a) ≡ a
+    same Yes = refl
+    same No = refl
+    same (NotAsked n) = refl
 
 pub visited-one : (a b : Visited) → visitedIs a ≡ visitedIs b → a ≡ b
-visited-one Changed Changed e = refl
-visited-one Changed Same e = let z : _≡_ {A = ℕ} 0 1 = cc in absurd (omega arith)
-visited-one Changed (NotVisited n) e = absurd (not-both e)
-visited-one Same Changed e = let z : _≡_ {A = ℕ} 0 1 = cc in absurd (omega arith)
-visited-one Same Same e = refl
-visited-one Same (NotVisited n) e = absurd (not-both e)
-visited-one (NotVisited m) Changed e = absurd (not-both (sym e))
-visited-one (NotVisited m) Same e = absurd (not-both (sym e))
-visited-one (NotVisited m) (NotVisited n) e = ap NotVisited (refused-one e)
+visited-one = told-apart visitedIs back same
+  where
+    back : Outcome Bool → Visited
+    back (answers b) = visitedOf b
+    back (refused n) = NotVisited n
+
+    same : (a : Visited) → back (visitedIs a) ≡ a
+    same Changed = refl
+    same Same = refl
+    same (NotVisited n) = refl
 
 pub filled-one : (a b : Filled) → filledIs a ≡ filledIs b → a ≡ b
-filled-one Done Done e = refl
-filled-one Done (NotFilled n) e = absurd (not-both e)
-filled-one (NotFilled m) Done e = absurd (not-both (sym e))
-filled-one (NotFilled m) (NotFilled n) e = ap NotFilled (refused-one e)
+filled-one = told-apart filledIs back same
+  where
+    back : Outcome (Unit {0}) → Filled
+    back (answers u) = Done
+    back (refused n) = NotFilled n
+
+    same : (a : Filled) → back (filledIs a) ≡ a
+    same Done = refl
+    same (NotFilled n) = refl
 
 pub visited-is : (b : Bool) (r : Visited) → r ≡ visitedOf b → visitedIs r ≡ answers b
 visited-is true r e = rw e

@@ -20,6 +20,7 @@ use Rattle.theory.proofs.First.{both, first-marked, first-visit-true, first-cle
 use Rattle.theory.proofs.Rounds.{run-keeps, run-append, until-keeps, until-ends, until-rest}
 use Rattle.source.specs.Order.{rule-to-prods, iter-rules}
 use Rattle.source.specs.Firsts.{State, set, set-epsilon, union, is-last, at-end, walk, prod, prods, rules, round, Returns, unchanged, changed}
+use Rattle.source.proofs.Flags.{Tracks, tracks-none, tracks-then}
 use Rattle.source.proofs.Order.{by-rules, prods-in, by-rules-round}
 
 -- what row r has got so far, on top of the marks m
@@ -151,32 +152,6 @@ prod-visit g p m out c i =
     let d = prod-is m (g .tokens) (g .owner p) out (g .body p) c in
     record { first = fun-ext (λ q. fun-ext (λ u. d .first q u)) i; empty = fun-ext (λ q. d .empty q) i }
 
--- the flag tells whether the marks have changed since m
-record Tracks (m : Marks) (st : State) : Type 0 where
-  grown : Under (both m) (both (st .marks))
-  told : st .changed ≡ true → (r : ℕ) × (t : ℕ) × (both m r t ≡ false) × (both (st .marks) r t ≡ true)
-  still : st .changed ≡ false → st .marks ≡ m
-
-was-false : (a b : Bool) → (a ≡ true → b ≡ true) → b ≡ false → a ≡ false
-was-false true b h e = absurd (true≢false (sym (h refl) ∙ e))
-was-false false b h e = refl
-
--- marks that one mark at (r, t), seen as a table, has been added to
-record Added (m n : Marks) (r t : ℕ) : Type 0 where
-  grown : Under (both m) (both n)
-  there : both n r t ≡ true
-  same : both m r t ≡ true → n ≡ m
-
-tracks-add : (m : Marks) (st : State) (n : Marks) (r t : ℕ) → Tracks m st → Added (st .marks) n r t → Tracks m (record { marks = n; changed = st .changed || not (both (st .marks) r t) })
-tracks-add m st n r t k a = record {
-  grown = λ q u e. a .grown q u (k .grown q u e);
-  told = λ e. elim (or-split (st .changed) _ e) [
-    | inl c ↦ let w = k .told c in (w .0, w .1, w .2, a .grown (w .0) (w .1) (w .3))
-    | inr c ↦ (r, t, was-false _ _ (k .grown r t) (not-true _ c), a .there)
-  ];
-  still = λ e. let s = or-none (st .changed) _ e in a .same (not-false _ (s .1)) ∙ k .still (s .0);
-}
-
 row-under : (m : Marks) (f : Table) → ((q u : ℕ) → m .first q u ≡ true → f q u ≡ true) → Under (both m) (both (record { first = f; empty = m .empty }))
 row-under m f h q zero e = e
 row-under m f h q (suc u) e = h q u e
@@ -185,11 +160,12 @@ column-under : (m : Marks) (f : ℕ → Bool) → ((q : ℕ) → m .empty q ≡ 
 column-under m f h q zero e = h q e
 column-under m f h q (suc u) e = e
 
-added-first : (m : Marks) (r t : ℕ) → Added m (record { first = λ q u. m .first q u || (eqb q r && eqb u t); empty = m .empty }) r (suc t)
+-- setting a bit is a change exactly if it was not set
+added-first : (m : Marks) (r t : ℕ) → Tracks both m (record { first = λ q u. m .first q u || (eqb q r && eqb u t); empty = m .empty }) (not (m .first r t))
 added-first m r t = record {
   grown = row-under m _ (λ q u e. or-left _ e);
-  there = or-right (m .first r t) (and-join (eqb-same r) (eqb-same t));
-  same = λ e i. record { first = fun-ext (λ q. fun-ext (λ u. bool-eq (m .first q u || (eqb q r && eqb u t)) (m .first q u) (back e q u) (λ k. or-left _ k))) i; empty = m .empty };
+  told = λ e. (r, suc t, not-true _ e, or-right (m .first r t) (and-join (eqb-same r) (eqb-same t)));
+  still = λ e i. record { first = fun-ext (λ q. fun-ext (λ u. bool-eq (m .first q u || (eqb q r && eqb u t)) (m .first q u) (back (not-false _ e) q u) (λ k. or-left _ k))) i; empty = m .empty };
 }
   where
     back : m .first r t ≡ true → (q u : ℕ) → (m .first q u || (eqb q r && eqb u t)) ≡ true → m .first q u ≡ true
@@ -198,50 +174,50 @@ added-first m r t = record {
       | inr d ↦ let s = and-split (eqb q r) _ d in ap₂ (m .first) (eqb-true q r (s .0)) (eqb-true u t (s .1)) ∙ e
     ]
 
-added-empty : (m : Marks) (r : ℕ) → Added m (record { first = m .first; empty = λ q. m .empty q || eqb q r }) r 0
+added-empty : (m : Marks) (r : ℕ) → Tracks both m (record { first = m .first; empty = λ q. m .empty q || eqb q r }) (not (m .empty r))
 added-empty m r = record {
   grown = column-under m _ (λ q e. or-left _ e);
-  there = or-right (m .empty r) (eqb-same r);
-  same = λ e i. record { first = m .first; empty = fun-ext (λ q. bool-eq (m .empty q || eqb q r) (m .empty q) (back e q) (λ k. or-left _ k)) i };
+  told = λ e. (r, 0, not-true _ e, or-right (m .empty r) (eqb-same r));
+  still = λ e i. record { first = m .first; empty = fun-ext (λ q. bool-eq (m .empty q || eqb q r) (m .empty q) (back (not-false _ e) q) (λ k. or-left _ k)) i };
 }
   where
     back : m .empty r ≡ true → (q : ℕ) → (m .empty q || eqb q r) ≡ true → m .empty q ≡ true
     back e q k = elim (or-split (m .empty q) _ k) [ inl d ↦ d | inr d ↦ ap (m .empty) (eqb-true q r d) ∙ e ]
 
+-- the flag tells whether the marks have changed since m
+abbrev Since : Marks → State → Type 0
+Since m st = Tracks both m (st .marks) (st .changed)
+
 module _ (m : Marks) where
-  tracks-set : (r t : ℕ) (st : State) → Tracks m st → Tracks m (set r t st)
-  tracks-set r t st k = tracks-add m st _ r (suc t) k (added-first (st .marks) r t)
-
-  tracks-epsilon : (r : ℕ) (st : State) → Tracks m st → Tracks m (set-epsilon r st)
-  tracks-epsilon r st k = tracks-add m st _ r 0 k (added-empty (st .marks) r)
-
-  tracks-if : (b : Bool) (s t : State) → Tracks m s → Tracks m t → Tracks m (cond b s t)
+  tracks-if : (b : Bool) (s t : State) → Since m s → Since m t → Since m (cond b s t)
   tracks-if true s t h k = h
   tracks-if false s t h k = k
 
-  tracks-union : (n r s : ℕ) (st : State) → Tracks m st → Tracks m (union n r s st)
+  tracks-union : (n r s : ℕ) (st : State) → Since m st → Since m (union n r s st)
   tracks-union zero r s st k = k
-  tracks-union (suc n) r s st k = let u = tracks-union n r s st k in tracks-if ((union n r s st) .marks .first s n) (set r n (union n r s st)) (union n r s st) (tracks-set r n _ u) u
+  tracks-union (suc n) r s st k =
+      let u = tracks-union n r s st k in
+      tracks-if ((union n r s st) .marks .first s n) (set r n (union n r s st)) (union n r s st) (tracks-then u (added-first ((union n r s st) .marks) r n)) u
 
-  tracks-end : (r s : ℕ) (α : Form) (st : State) → Tracks m st → Tracks m (at-end r s α st)
-  tracks-end r s α st k = tracks-if (st .marks .empty s && is-last α) (set-epsilon r st) st (tracks-epsilon r st k) k
+  tracks-end : (r s : ℕ) (α : Form) (st : State) → Since m st → Since m (at-end r s α st)
+  tracks-end r s α st k = tracks-if (st .marks .empty s && is-last α) (set-epsilon r st) st (tracks-then k (added-empty (st .marks) r)) k
 
-  tracks-walk : (T r : ℕ) (α : Form) (st : State) → Tracks m st → Tracks m (walk T r α st)
+  tracks-walk : (T r : ℕ) (α : Form) (st : State) → Since m st → Since m (walk T r α st)
   tracks-walk T r [] st k = k
-  tracks-walk T r (tok t ∷ α) st k = tracks-set r t st k
+  tracks-walk T r (tok t ∷ α) st k = tracks-then k (added-first (st .marks) r t)
   tracks-walk T r (rul s ∷ α) st k =
       let e = tracks-end r s α (union T r s st) (tracks-union T r s st k) in
       tracks-if ((at-end r s α (union T r s st)) .marks .empty s) (walk T r α (at-end r s α (union T r s st))) (at-end r s α (union T r s st)) (tracks-walk T r α (at-end r s α (union T r s st)) e) e
 
-  tracks-prod : (T r : ℕ) (α : Form) (st : State) → Tracks m st → Tracks m (prod T r α st)
-  tracks-prod T r [] st k = tracks-epsilon r st k
+  tracks-prod : (T r : ℕ) (α : Form) (st : State) → Since m st → Since m (prod T r α st)
+  tracks-prod T r [] st k = tracks-then k (added-empty (st .marks) r)
   tracks-prod T r (x ∷ α) st k = tracks-walk T r (x ∷ α) st k
 
-  tracks-prods : (g : Grammar) (r : ℕ) (ps : List ℕ) (st : State) → Tracks m st → Tracks m (prods g r ps st)
+  tracks-prods : (g : Grammar) (r : ℕ) (ps : List ℕ) (st : State) → Since m st → Since m (prods g r ps st)
   tracks-prods g r [] st k = k
   tracks-prods g r (p ∷ ps) st k = tracks-prods g r ps _ (tracks-prod (g .tokens) r (g .body p) st k)
 
-  tracks-rules : (g : Grammar) (rs : List ℕ) (st : State) → Tracks m st → Tracks m (rules g rs st)
+  tracks-rules : (g : Grammar) (rs : List ℕ) (st : State) → Since m st → Since m (rules g rs st)
   tracks-rules g [] st k = k
   tracks-rules g (r ∷ rs) st k = tracks-rules g rs _ (tracks-prods g r (rule-to-prods g r) st k)
 
@@ -278,8 +254,8 @@ module _ (g : Grammar) (ok : Proper g) where
   round-run : (m : Marks) → In m → (round g m) .marks ≡ run (firstVisit g) order m
   round-run m w = rules-run (iter-rules g) (record { marks = m; changed = false }) w
 
-  round-tracks : (m : Marks) → Tracks m (round g m)
-  round-tracks m = tracks-rules m g (iter-rules g) (record { marks = m; changed = false }) (record { grown = λ r t e. e; told = λ e. absurd (false≢true e); still = λ e. refl })
+  round-tracks : (m : Marks) → Since m (round g m)
+  round-tracks m = tracks-rules m g (iter-rules g) (record { marks = m; changed = false }) (tracks-none m)
 
   round-in : (m : Marks) → In m → In (round g m .marks)
   round-in m w = subst In (sym (round-run m w)) (run-keeps (firstVisit g) (g .prods) In (first-marked g ok .kept) order (by-rules-round g ok .valid) m w)

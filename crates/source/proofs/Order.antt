@@ -25,6 +25,10 @@ rising-all (suc n) k p a b =
     let ih : suc k ≤ p → List·Memᴰ p (rising n (suc k)) = λ l. rising-all n (suc k) p l (omega arith) in
     elim (ℕ-discrete p k) [ yes e ↦ List·Memᴰ·head e | no e ↦ List·Memᴰ·tail (ih (omega arith)) ]
 
+-- `grm.iter_pidxs()` is a round
+pub rising-round : (P : ℕ) → Round P (rising P 0)
+rising-round P = record { valid = λ p m. omega (arith, rising-in P 0 p m); all = λ p lt. rising-all P 0 p (omega arith) (omega arith) }
+
 owned-in : (g : Grammar) (r : ℕ) (ps : List ℕ) (p : ℕ) → List·Memᴰ p (owned g r ps) → (g .owner p ≡ r) × List·Memᴰ p ps
 owned-in g r [] p m = absurd (List·Memᴰ·not-nil m)
 owned-in g r (q ∷ ps) p m = go (eqb (g .owner q) r) refl m (λ n. owned-in g r ps p n)

@@ -72,15 +72,15 @@ module _ (g : Grammar) (mode : Mode) (m : Marks) where
         )
   ]
 
-  back-under : (o : ℕ) (v : Form) (f : Table) → Under f (followBack mode m o v f)
-  back-under o [] f r t e = e
-  back-under o (tok s ∷ v) f r t e = back-under o v f r t e
-  back-under o (rul A ∷ v) f r t e = or-left _ (back-under o v f r t e)
+  pub follow-back-under : (o : ℕ) (v : Form) (f : Table) → Under f (followBack mode m o v f)
+  follow-back-under o [] f r t e = e
+  follow-back-under o (tok s ∷ v) f r t e = follow-back-under o v f r t e
+  follow-back-under o (rul A ∷ v) f r t e = or-left _ (follow-back-under o v f r t e)
 
-  back-front : (o : ℕ) (u v : Form) (f : Table) → Under (followBack mode m o v f) (followBack mode m o (u ++ v) f)
-  back-front o [] v f r t e = e
-  back-front o (tok s ∷ u) v f r t e = back-front o u v f r t e
-  back-front o (rul A ∷ u) v f r t e = or-left _ (back-front o u v f r t e)
+  pub follow-back-front : (o : ℕ) (u v : Form) (f : Table) → Under (followBack mode m o v f) (followBack mode m o (u ++ v) f)
+  follow-back-front o [] v f r t e = e
+  follow-back-front o (tok s ∷ u) v f r t e = follow-back-front o u v f r t e
+  follow-back-front o (rul A ∷ u) v f r t e = or-left _ (follow-back-front o u v f r t e)
 
 -- a visit keeps the marks true
 module _ (g : Grammar) (mode : Mode) (m : Marks) (h : FirstExact g m) where
@@ -110,14 +110,14 @@ module _ (g : Grammar) (mode : Mode) (m : Marks) (h : FirstExact g m) (f : Table
   -- what one rule symbol would add is there already
   there : (p A : ℕ) (v : Form) → Within g mode p A v → (t : ℕ) → followJoin mode m (g .owner p) A v (followBack mode m (g .owner p) v f) A t ≡ true → f A t ≡ true
   there p A v k t e =
-      let b : followBack mode m (g .owner p) (k .front ++ (rul A ∷ v)) f A t ≡ true = back-front g mode m (g .owner p) (k .front) (rul A ∷ v) f A t e in
+      let b : followBack mode m (g .owner p) (k .front ++ (rul A ∷ v)) f A t ≡ true = follow-back-front g mode m (g .owner p) (k .front) (rul A ∷ v) f A t e in
       subst (λ z. z A t ≡ true) (st p (k .counts)) (subst (λ z. followBack mode m (g .owner p) z f A t ≡ true) (sym (k .is)) b)
 
   rest-closed : Closed g mode (λ r t. f r t ≡ true)
   rest-closed = record {
     start = fin;
     ahead = λ p A t v k x. there p A v k t (or-right (followBack mode m (g .owner p) v f A t) (and-join (eqb-same A) (or-right (nullable (m .empty) v && followBack mode m (g .owner p) v f (g .owner p) t) (ahead-whole g m h mode x))));
-    last = λ p A t v k x y. there p A v k t (or-right (followBack mode m (g .owner p) v f A t) (and-join (eqb-same A) (or-left (aheadOf mode m v t) (and-join (vanishes-whole g m h x) (back-under g mode m (g .owner p) v f (g .owner p) t y)))));
+    last = λ p A t v k x y. there p A v k t (or-right (followBack mode m (g .owner p) v f A t) (and-join (eqb-same A) (or-left (aheadOf mode m v t) (and-join (vanishes-whole g m h x) (follow-back-under g mode m (g .owner p) v f (g .owner p) t y)))));
   }
 
   pub follow-rest-exact : FollowTrue g mode f → FollowExact g mode f
@@ -161,12 +161,12 @@ module _ (g : Grammar) (ok : Proper g) (mode : Mode) (m : Marks) (h : FirstExact
     view = λ f. f;
     kept = λ p lt f w. back-inside (g .owner p) (g .body p) (λ t k. omega (arith, ok .token p lt t k)) (ok .rule p lt) f w;
     inside = λ f w. w;
-    under = λ p f. back-under g mode m (g .owner p) (g .body p) f;
+    under = λ p f. follow-back-under g mode m (g .owner p) (g .body p) f;
     same = λ p f e. sym e;
   }
 
-  cleared-inside : Inside (g .rules) (g .tokens) (followCleared g)
-  cleared-inside r t e =
+  pub follow-cleared-inside : Inside (g .rules) (g .tokens) (followCleared g)
+  follow-cleared-inside r t e =
       let s = and-split (eqb r 0) _ e in
       (omega (arith, ok .some-rule, eqb-true r 0 (s .0)), omega (arith, ok .some-token, eqb-true t (eof g) (s .1)))
 
@@ -177,7 +177,7 @@ module _ (g : Grammar) (ok : Proper g) (mode : Mode) (m : Marks) (h : FirstExact
   run-true v k = run-keeps (followVisit g mode m) (g .prods) (FollowTrue g mode) (follow-visit-true g mode m h) v k (followCleared g) (follow-cleared-true g mode)
 
   run-fin : (v : List ℕ) → Valid (g .prods) v → run (followVisit g mode m) v (followCleared g) 0 (eof g) ≡ true
-  run-fin v k = run-keeps (followVisit g mode m) (g .prods) (λ f. f 0 (eof g) ≡ true) (λ p lt f e. back-under g mode m (g .owner p) (g .body p) f 0 (eof g) e) v k (followCleared g) cleared-fin
+  run-fin v k = run-keeps (followVisit g mode m) (g .prods) (λ f. f 0 (eof g) ≡ true) (λ p lt f e. follow-back-under g mode m (g .owner p) (g .body p) f 0 (eof g) e) v k (followCleared g) cleared-fin
 
   -- demand 3 for FOLLOW of one mode, reading finished FIRST and EMPTY: R*T rounds
   pub follow-any-order : AnyOrder (followVisit g mode m) (followCleared g) (g .prods) (g .rules * g .tokens) (FollowTrue g mode) (FollowExact g mode)
@@ -185,5 +185,5 @@ module _ (g : Grammar) (ok : Proper g) (mode : Mode) (m : Marks) (h : FirstExact
     always = run-true;
     exact = λ v k r. follow-rest-exact g mode m h _ (run-fin v k) r (run-true v k);
     agree = follow-one g mode;
-    settles = λ vs k len. rounds-done (climb-ascent (climb follow-marked)) vs k len (followCleared g) cleared-inside;
+    settles = λ vs k len. rounds-done (climb-ascent (climb follow-marked)) vs k len (followCleared g) follow-cleared-inside;
   }

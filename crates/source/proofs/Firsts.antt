@@ -11,28 +11,22 @@ use lib.Dec.{eqb, ltb}
 use borrow.Author.Tests.{eqb-true, eq-eqb, ne-eqb, lt-ltb, le-ltb, not-true, not-false}
 use Rattle.theory.specs.Grammar.{Sym, tok, rul, Form, Grammar}
 use Rattle.theory.specs.Visits.{Table, Marks, nullable, firstOf, firstVisit, firstCleared}
-use Rattle.theory.specs.Rounds.{run, Valid, Rest, Until, stop, again}
+use Rattle.theory.specs.Rounds.{run}
 use Rattle.theory.specs.Tables.{Proper, FirstTrue, FirstExact}
-use Rattle.theory.proofs.Bools.{and-split, and-join, or-split, or-left, or-right, or-none, bool-eq, eqb-same, eqb-turned}
+use Rattle.theory.proofs.Bools.{and-split, and-join, or-split, or-left, or-right, or-none, join-twice, bool-eq, eqb-same, eqb-turned}
 use Rattle.theory.proofs.Below.{below-more}
 use Rattle.theory.proofs.Count.{Inside, Under, Marked, climb}
 use Rattle.theory.proofs.First.{both, first-marked, first-visit-true, first-cleared-true, first-rest-exact}
 use Rattle.theory.proofs.Rounds.{run-keeps, run-append, until-keeps, until-ends, until-rest}
 use Rattle.source.specs.Order.{rule-to-prods, iter-rules}
-use Rattle.source.specs.Firsts.{State, set, set-epsilon, union, is-last, at-end, walk, prod, prods, rules, round, Returns, unchanged, changed}
-use Rattle.source.proofs.Flags.{Tracks, tracks-none, tracks-then}
+use Rattle.source.specs.Firsts.{State, set, set-epsilon, union, is-last, at-end, walk, prod, prods, rules, round, Returns}
+use Rattle.source.proofs.Flags.{Tracks, tracks-none, tracks-then, loops-until, until-loops}
 use Rattle.source.proofs.Order.{by-rules, prods-in, by-rules-round}
 
 -- what row r has got so far, on top of the marks m
 record Got (m : Marks) (r : ℕ) (got : ℕ → Bool) (st : State) : Type 0 where
   first : (q u : ℕ) → st .marks .first q u ≡ (m .first q u || (eqb q r && got u))
   empty : (q : ℕ) → st .marks .empty q ≡ m .empty q
-
--- some boolean algebra of a join
-absorb : (a b c d : Bool) → ((a || (b && c)) || (b && d)) ≡ (a || (b && (c || d)))
-absorb true b c d = refl
-absorb false true c d = refl
-absorb false false c d = refl
 
 set-if : (b : Bool) (r n : ℕ) (st : State) (q u : ℕ) → (cond b (set r n st) st) .marks .first q u ≡ (st .marks .first q u || (eqb q r && (eqb u n && b)))
 set-if true r n st q u = ap (λ z. st .marks .first q u || (eqb q r && z)) (sym (and-true (eqb u n)))
@@ -48,7 +42,7 @@ union-first zero r s st q u = sym (rw (le-ltb u 0 (omega arith), and-false (eqb 
 union-first (suc n) r s st q u =
     let at : (union n r s st) .marks .first s n ≡ st .marks .first s n = union-first n r s st s n ∙ rw (le-ltb n n (omega arith), and-false (eqb s r)) (or-false (st .marks .first s n)) in
     set-if ((union n r s st) .marks .first s n) r n (union n r s st) q u
-    ∙ rw (at, union-first n r s st q u) (absorb (st .marks .first q u) (eqb q r) (ltb u n && st .marks .first s u) (eqb u n && st .marks .first s n)
+    ∙ rw (at, union-first n r s st q u) (join-twice (st .marks .first q u) (eqb q r) (ltb u n && st .marks .first s u) (eqb u n && st .marks .first s n)
     ∙ ap (λ z. st .marks .first q u || (eqb q r && z)) (below-more (st .marks .first s) u n ∙ rw add-one))
 
 union-empty : (n r s : ℕ) (st : State) → (union n r s st) .marks .empty ≡ st .marks .empty
@@ -96,7 +90,7 @@ last-rule m r s got st h false e true d = absurd (true≢false d)
 module _ (m : Marks) (T r : ℕ) (out : (s u : ℕ) → T ≤ u → m .first s u ≡ false) where
   at-token : (α : Form) (t : ℕ) (got : ℕ → Bool) (st : State) → Got m r got st → Done m r got (tok t ∷ α) (walk T r (tok t ∷ α) st)
   at-token α t got st h = record {
-    first = λ q u. ap (λ z. z || (eqb q r && eqb u t)) (h .first q u) ∙ absorb (m .first q u) (eqb q r) (got u) (eqb u t) ∙ ap (λ z. m .first q u || (eqb q r && (got u || z))) (eqb-turned u t);
+    first = λ q u. ap (λ z. z || (eqb q r && eqb u t)) (h .first q u) ∙ join-twice (m .first q u) (eqb q r) (got u) (eqb u t) ∙ ap (λ z. m .first q u || (eqb q r && (got u || z))) (eqb-turned u t);
     empty = λ q. h .empty q ∙ sym (rw (and-false (eqb q r)) (or-false (m .empty q)));
   }
 
@@ -260,37 +254,17 @@ module _ (g : Grammar) (ok : Proper g) where
   round-in : (m : Marks) → In m → In (round g m .marks)
   round-in m w = subst In (sym (round-run m w)) (run-keeps (firstVisit g) (g .prods) In (first-marked g ok .kept) order (by-rules-round g ok .valid) m w)
 
-  returns-until : {m t : Marks} → In m → Returns g m t → Until (firstVisit g) order m t
-  returns-until w (unchanged {m = m} e) =
-      let s = round-tracks m .still e in
-      subst (λ z. Until (firstVisit g) order m z) (sym s) (stop (sym (round-run m w) ∙ s))
-  returns-until w (changed {m = m} {t = t} e x) = again (subst (λ z. Until (firstVisit g) order z t) (round-run m w) (returns-until (round-in m w) x))
-
-  until-returns : {m t : Marks} → In m → Until (firstVisit g) order m t → (n : Marks) × Returns g m n
-  until-returns w (stop {s = m} e) = go (round g m .changed) refl
-    where
-      go : (b : Bool) → round g m .changed ≡ b → (n : Marks) × Returns g m n
-      go true c =
-          let k = round-tracks m .told c in
-          absurd (false≢true (sym (k .2) ∙ ap (λ z. both z (k .0) (k .1)) (sym (round-run m w ∙ e)) ∙ k .3))
-      go false c = (_, unchanged c)
-  until-returns w (again {s = m} {t = t} u) = go (round g m .changed) refl (until-returns (subst In (round-run m w) (round-in m w)) u)
-    where
-      go : (b : Bool) → round g m .changed ≡ b → (n : Marks) × Returns g (run (firstVisit g) order m) n → (n : Marks) × Returns g m n
-      go true c k = (k .0, changed c (subst (λ z. Returns g z (k .0)) (sym (round-run m w)) (k .1)))
-      go false c k = (_, unchanged c)
-
   none : In firstCleared
   none r zero e = absurd (false≢true e)
   none r (suc t) e = absurd (false≢true e)
 
   -- the source's loop returns
   pub firsts-returns : (t : Marks) × Returns g firstCleared t
-  firsts-returns = until-returns none (until-ends (climb (first-marked g ok)) order (by-rules-round g ok) firstCleared none .1)
+  firsts-returns = until-loops (firstVisit g) order In _ _ round-run round-in round-tracks none (until-ends (climb (first-marked g ok)) order (by-rules-round g ok) firstCleared none .1)
 
   -- and what it returns is FIRST and EMPTY
   pub firsts-exact : {t : Marks} → Returns g firstCleared t → FirstExact g t
   firsts-exact {t} x =
-      let u = returns-until none x in
+      let u = loops-until (firstVisit g) order In _ _ round-run round-in round-tracks none x in
       first-rest-exact g t (until-rest (climb (first-marked g ok)) order (by-rules-round g ok) u none)
       (until-keeps (firstVisit g) (g .prods) (FirstTrue g) (first-visit-true g) (by-rules-round g ok .valid) u (first-cleared-true g))

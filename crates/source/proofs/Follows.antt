@@ -12,25 +12,19 @@ use borrow.Author.Tests.{eqb-true, eq-eqb, lt-ltb, le-ltb, not-true, not-false}
 use Rattle.theory.specs.Below.{some}
 use Rattle.theory.specs.Grammar.{Sym, tok, rul, Form, Grammar, eof}
 use Rattle.theory.specs.Follow.{Mode, crate}
-use Rattle.theory.specs.Rounds.{run, Until, stop, again}
+use Rattle.theory.specs.Rounds.{run}
 use Rattle.theory.specs.Tables.{Proper, FirstExact, FollowTrue, FollowExact}
 use Rattle.theory.specs.Visits.{Table, Marks, nullable, aheadOf, followJoin, followBack, followVisit, followCleared}
 use Rattle.theory.proofs.Below.{below-more, some-found, none-at}
-use Rattle.theory.proofs.Bools.{and-split, and-join, or-split, or-left, or-right, or-none, bool-eq, eqb-same, eqb-turned}
+use Rattle.theory.proofs.Bools.{and-split, and-join, or-split, or-left, or-right, or-none, join-twice, bool-eq, eqb-same, eqb-turned}
 use Rattle.theory.proofs.Count.{Inside, Under, climb}
 use Rattle.theory.proofs.Follow.{follow-marked, follow-visit-true, follow-cleared-true, follow-rest-exact, follow-cleared-inside, follow-back-under, follow-back-front}
 use Rattle.theory.proofs.Rounds.{run-keeps, until-keeps, until-ends, until-rest}
 use Rattle.theory.proofs.Yields.{first-below}
 use Rattle.source.specs.Order.{rising}
-use Rattle.source.specs.Follows.{State, set, or, union, passes, look, symbol, symbols, prods, round, Returns, unchanged, changed}
-use Rattle.source.proofs.Flags.{Tracks, tracks-none, tracks-then}
+use Rattle.source.specs.Follows.{State, set, or, union, passes, look, symbol, symbols, prods, round, Returns}
+use Rattle.source.proofs.Flags.{Tracks, tracks-none, tracks-then, loops-until, until-loops}
 use Rattle.source.proofs.Order.{rising-round}
-
--- some boolean algebra of a join
-absorb : (a b c d : Bool) → ((a || (b && c)) || (b && d)) ≡ (a || (b && (c || d)))
-absorb true b c d = refl
-absorb false true c d = refl
-absorb false false c d = refl
 
 set-if : (b : Bool) (s n : ℕ) (st : State) (q u : ℕ) → (cond b (set s n st) st) .follows q u ≡ (st .follows q u || (eqb q s && (eqb u n && b)))
 set-if true s n st q u = ap (λ z. st .follows q u || (eqb q s && z)) (sym (and-true (eqb u n)))
@@ -46,7 +40,7 @@ union-follows zero r s st q u = sym (rw (le-ltb u 0 (omega arith), and-false (eq
 union-follows (suc n) r s st q u =
     let at : (union n r s st) .follows r n ≡ st .follows r n = union-follows n r s st r n ∙ rw (le-ltb n n (omega arith), and-false (eqb r s)) (or-false (st .follows r n)) in
     set-if ((union n r s st) .follows r n) s n (union n r s st) q u
-    ∙ rw (at, union-follows n r s st q u) (absorb (st .follows q u) (eqb q s) (ltb u n && st .follows r u) (eqb u n && st .follows r n)
+    ∙ rw (at, union-follows n r s st q u) (join-twice (st .follows q u) (eqb q s) (ltb u n && st .follows r u) (eqb u n && st .follows r n)
     ∙ ap (λ z. st .follows q u || (eqb q s && z)) (below-more (st .follows r) u n ∙ rw add-one))
 
 union-epsilon : (n r s : ℕ) (st : State) → (union n r s st) .epsilon ≡ st .epsilon
@@ -88,7 +82,7 @@ module _ (T : ℕ) (m : Marks) (r : ℕ) where
     follows = λ q u.
         looked s v _ q u
         ∙ ap (λ z. z || (eqb q s && aheadOf crate m v u)) (joined s (followBack crate m r v f) (st .epsilon) st (d .follows) out q u ∙ ap (λ z. followBack crate m r v f q u || (eqb q s && (z && followBack crate m r v f r u))) (d .epsilon))
-        ∙ absorb (followBack crate m r v f q u) (eqb q s) (nullable (m .empty) v && followBack crate m r v f r u) (aheadOf crate m v u);
+        ∙ join-twice (followBack crate m r v f q u) (eqb q s) (nullable (m .empty) v && followBack crate m r v f r u) (aheadOf crate m v u);
     epsilon =
         looked-epsilon s v (passes m s (cond (st .epsilon) (union T r s st) st))
         ∙ ap (λ z. z && m .empty s) (joined-epsilon s st (st .epsilon) ∙ d .epsilon)
@@ -209,38 +203,18 @@ module _ (g : Grammar) (ok : Proper g) (m : Marks) (h : FirstExact g m) where
   round-in : (f : Table) → In f → In ((round g m f) .follows)
   round-in f w = subst In (sym (round-run f w)) (run-keeps visit (g .prods) In (follow-marked g ok crate m h .kept) order (rising-round (g .prods) .valid) f w)
 
-  returns-until : {f t : Table} → In f → Returns g m f t → Until visit order f t
-  returns-until w (unchanged {f = f} e) =
-      let s = round-tracks f .still e in
-      subst (λ z. Until visit order f z) (sym s) (stop (sym (round-run f w) ∙ s))
-  returns-until w (changed {f = f} {t = t} e x) = again (subst (λ z. Until visit order z t) (round-run f w) (returns-until (round-in f w) x))
-
-  until-returns : {f t : Table} → In f → Until visit order f t → (n : Table) × Returns g m f n
-  until-returns w (stop {s = f} e) = go ((round g m f) .changed) refl
-    where
-      go : (b : Bool) → (round g m f) .changed ≡ b → (n : Table) × Returns g m f n
-      go true c =
-          let k = round-tracks f .told c in
-          absurd (false≢true (sym (k .2) ∙ ap (λ z. z (k .0) (k .1)) (sym (round-run f w ∙ e)) ∙ k .3))
-      go false c = (_, unchanged c)
-  until-returns w (again {s = f} {t = t} u) = go ((round g m f) .changed) refl (until-returns (subst In (round-run f w) (round-in f w)) u)
-    where
-      go : (b : Bool) → (round g m f) .changed ≡ b → (n : Table) × Returns g m (run visit order f) n → (n : Table) × Returns g m f n
-      go true c k = (k .0, changed c (subst (λ z. Returns g m z (k .0)) (sym (round-run f w)) (k .1)))
-      go false c k = (_, unchanged c)
-
   abbrev fresh : Table
   fresh = followCleared g
 
   -- the source's loop returns
   pub follows-returns : (t : Table) × Returns g m fresh t
-  follows-returns = until-returns (follow-cleared-inside g ok crate m h) (until-ends (climb (follow-marked g ok crate m h)) order (rising-round (g .prods)) fresh (follow-cleared-inside g ok crate m h) .1)
+  follows-returns = until-loops visit order In _ _ round-run round-in round-tracks (follow-cleared-inside g ok crate m h) (until-ends (climb (follow-marked g ok crate m h)) order (rising-round (g .prods)) fresh (follow-cleared-inside g ok crate m h) .1)
 
   -- and what it returns is FOLLOW of the crate's mode
   pub follows-exact : {t : Table} → Returns g m fresh t → FollowExact g crate t
   follows-exact {t} x =
       let i = follow-cleared-inside g ok crate m h in
-      let u = returns-until i x in
+      let u = loops-until visit order In _ _ round-run round-in round-tracks i x in
       follow-rest-exact g crate m h t
       (until-keeps visit (g .prods) (λ f. f 0 (eof g) ≡ true) (λ p lt f e. follow-back-under g crate m (g .owner p) (g .body p) f 0 (eof g) e) (rising-round (g .prods) .valid) u (and-join (eqb-same 0) (eqb-same (eof g))))
       (until-rest (climb (follow-marked g ok crate m h)) order (rising-round (g .prods)) u i)

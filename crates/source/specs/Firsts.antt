@@ -1,11 +1,11 @@
 -- The source's `YaccFirsts::new` (firsts.rs) as a value: its bit vectors and its flag `changed`, in its own order of work.
 use mathlib.Core.Bool.{Bool, true, false, not, _&&_, _||_, cond}
 use mathlib.Core.List.{List, [], _∷_}
-use mathlib.Core.Path.{_≡_}
 use Prim.Native.Nat.{ℕ, zero, suc}
 use lib.Dec.{eqb}
 use Rattle.theory.specs.Grammar.{Sym, tok, rul, Form, Grammar}
 use Rattle.theory.specs.Visits.{Table, Row, Marks}
+use Rattle.source.specs.Loop.{Loops}
 use Rattle.source.specs.Order.{rule-to-prods, iter-rules}
 
 -- `firsts`, `epsilons` and `changed`
@@ -67,6 +67,5 @@ abbrev pub round : Grammar → Marks → State
 round g m = rules g (iter-rules g) (record { marks = m; changed = false })
 
 -- `loop { .. if !changed { return firsts; } }`: from m it returns t
-pub data Returns (g : Grammar) : Marks → Marks → Type 0 where
-  unchanged : {m : Marks} → (round g m) .changed ≡ false → Returns g m ((round g m) .marks)
-  changed : {m t : Marks} → (round g m) .changed ≡ true → Returns g ((round g m) .marks) t → Returns g m t
+abbrev pub Returns : Grammar → Marks → Marks → Type 0
+Returns g = Loops (λ m. (round g m) .marks) (λ m. (round g m) .changed)

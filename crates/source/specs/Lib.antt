@@ -1,4 +1,5 @@
 pub mod Order
+pub mod Loop
 pub mod Firsts
 pub mod Follows
 pub mod Costs

@@ -1,11 +1,10 @@
 // FIRST and EMPTY below the public calls: the walk, one production's step, rounds until none changes anything.
 use grammar::inner::start_at;
 use grammar::inner::wide;
+use tables::inner::turn_at;
 use tables::inner::words_for;
 ghost use mathlib.Core.Path.{_≡_};
-ghost use Prim.Native.Nat.{_<_};
 ghost use lib.ListN.{length};
-ghost use Rattle.theory.specs.Fills.{turn};
 ghost use Rattle.grammar.specs.Flat.{flat};
 ghost use Rattle.firsts.specs.Lent.{lent};
 ghost use Rattle.firsts.specs.Step.{Walkable, Walks, Ready, Steps, Begun, Rounds, Settled};
@@ -85,17 +84,6 @@ pub fn step(
         return w.new | got;
     }
     w.new
-}
-
-// The production that comes i-th of n, going up or down.
-fn turn_at(down: bool, n: usize, i: usize) -> usize
-    requires { ⌜ i < n ⌝ }
-    ensures { λ r. ⌜ r ≡ turn down n i ⌝ }
-{
-    if down {
-        return n - 1 - i;
-    }
-    i
 }
 
 // One round, each production once; whether something changed.

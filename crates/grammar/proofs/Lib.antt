@@ -5,3 +5,4 @@ pub mod Produced
 pub mod Well
 pub mod Denoted
 pub mod Callers
+pub mod Forms

@@ -2,3 +2,4 @@ pub mod Sizes
 pub mod Answers
 pub mod Call
 pub mod Queries
+pub mod Trace

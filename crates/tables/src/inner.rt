@@ -2,7 +2,8 @@
 use crate::Asked;
 use crate::Visited;
 ghost use mathlib.Core.Path.{_≡_};
-ghost use Prim.Native.Nat.{_≤_};
+ghost use Prim.Native.Nat.{_≤_, _<_};
+ghost use Rattle.theory.specs.Fills.{turn};
 ghost use Rattle.tables.specs.Answers.{askedOf, visitedOf};
 ghost use Rattle.tables.specs.Sizes.{words, tableWrong, rowWrong};
 
@@ -45,4 +46,15 @@ pub fn visited(changed: bool) -> Visited
         return Visited::Changed;
     }
     Visited::Same
+}
+
+// The production that comes i-th of n in a round that goes up or down.
+pub fn turn_at(down: bool, n: usize, i: usize) -> usize
+    requires { ⌜ i < n ⌝ }
+    ensures { λ r. ⌜ r ≡ turn down n i ⌝ }
+{
+    if down {
+        return n - 1 - i;
+    }
+    i
 }

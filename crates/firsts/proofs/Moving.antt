@@ -22,7 +22,7 @@ use Rattle.rows.specs.Marks.{mark}
 use Rattle.rows.specs.Tables.{Sized, view, Became}
 use Rattle.rows.proofs.Tables.{view-mark, view-inside, became-self, became-one, became-view, became-still, became-as}
 use Rattle.tables.specs.Sizes.{words}
-use Rattle.firsts.specs.Lent.{Lent, lent, Held, Spared, marksOf, form}
+use Rattle.firsts.specs.Lent.{Lent, lent, Held, Spared, marksOf}
 use Rattle.firsts.specs.Step.{Ready, Steps, Begun}
 use Rattle.firsts.proofs.Walking.{empty-mark}
 

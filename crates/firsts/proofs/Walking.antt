@@ -1,43 +1,27 @@
 -- The walk, turn by turn: what row o has got so far, and what is left of the stretch.
 use mathlib.Core.Bool.{Bool, true, false, not, cond, _&&_, _||_, or-false, or-assoc}
-use mathlib.Core.List.{List, [], _∷_, map}
+use mathlib.Core.List.{List, _∷_}
 use mathlib.Core.Path.{_≡_, refl, sym, ap, _∙_}
 use Prim.Native.Nat.{ℕ, suc, _+_, _-_, _*_, _/_, _≤_, _<_}
-use native.Mathlib.Nat.{le-antisymm, mul-le-mul-right}
-use native.Mathlib.Numerals.{add-one}
+use native.Mathlib.Nat.{mul-le-mul-right}
 use native.Mathlib.Omega.{arith}
 use lib.Dec.{ltb, eqb}
 use lib.ListN.{length}
-use lib.Seq.{slice, slice-cons, slice-empty}
-use borrow.Author.Tests.{lt-ltb, le-ltb, not-true, not-false}
-use Rattle.theory.specs.Grammar.{Sym, tok, rul, Form}
+use borrow.Author.Tests.{not-true, not-false}
+use Rattle.theory.specs.Grammar.{tok, rul}
 use Rattle.theory.specs.Visits.{Marks, firstOf, nullable}
 use Rattle.theory.proofs.Bools.{eqb-turned}
-use Rattle.grammar.specs.Flat.{at, symbol}
+use Rattle.grammar.specs.Flat.{at, form}
 use Rattle.grammar.specs.Well.{SymbolFits}
+use Rattle.grammar.proofs.Forms.{form-done, form-token, form-rule}
 use Rattle.rows.specs.Marks.{place, mark, marked, Raised, Rows}
 use Rattle.rows.specs.Tables.{Sized}
 use Rattle.rows.proofs.Marks.{row-in}
 use Rattle.rows.proofs.Raise.{raised-as, raised-none, raised-then, raised-join, raised-mark}
 use Rattle.rows.proofs.Tables.{view-mark}
 use Rattle.tables.specs.Sizes.{words}
-use Rattle.firsts.specs.Lent.{Lent, lent, Held, marksOf, form}
+use Rattle.firsts.specs.Lent.{Lent, lent, Held, marksOf}
 use Rattle.firsts.specs.Step.{Walkable, Walks}
-
--- the stretch, taken apart
-pub form-done : (symbols : List ℕ) (i e : ℕ) → i ≤ e → e ≤ i → form symbols i e ≡ []
-unfolding form
-form-done symbols i e p q = rw (le-antisymm p q, slice-empty e symbols)
-
-pub form-more : (symbols : List ℕ) (i e : ℕ) → i < e → e ≤ length symbols → form symbols i e ≡ symbol (at symbols i) ∷ form symbols (i + 1) e
-unfolding form
-form-more symbols i e l k = rw (add-one, slice-cons i e symbols 0 l k)
-
-symbol-token : (s : ℕ) → s < 32768 → symbol s ≡ tok s
-symbol-token s l = rw (lt-ltb s 32768 l)
-
-symbol-rule : (s : ℕ) → 32768 ≤ s → symbol s ≡ rul (s - 32768)
-symbol-rule s l = rw (le-ltb s 32768 l)
 
 -- the marks are the words'
 module _ (R T : ℕ) (l : Lent) where
@@ -89,7 +73,7 @@ module _ (R T : ℕ) (symbols : List ℕ) (a e o : ℕ) (l : Lent) (ok : Walkabl
       -- a token
       module _ (low : s < 32768) where
         left-token : form symbols i e ≡ tok s ∷ form symbols (i + 1) e
-        left-token = form-more symbols i e h (ok .fits) ∙ rw (← is) (ap (λ (x : Sym). x ∷ form symbols (i + 1) e) (symbol-token s low))
+        left-token = form-token symbols i e s is h (ok .fits) low
 
         token-below : s < T
         token-below = omega (arith, fits .token low)
@@ -107,7 +91,7 @@ module _ (R T : ℕ) (symbols : List ℕ) (a e o : ℕ) (l : Lent) (ok : Walkabl
       -- a rule
       module _ (high : 32768 ≤ s) where
         left-rule : form symbols i e ≡ rul (s - 32768) ∷ form symbols (i + 1) e
-        left-rule = form-more symbols i e h (ok .fits) ∙ rw (← is) (ap (λ (x : Sym). x ∷ form symbols (i + 1) e) (symbol-rule s high))
+        left-rule = form-rule symbols i e s is h (ok .fits) high
 
         rule-below : s - 32768 < R
         rule-below = omega (arith, fits .rule high)

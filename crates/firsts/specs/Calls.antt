@@ -15,6 +15,7 @@ use Rattle.tables.specs.declared.Filled.{Filled}
 use Rattle.tables.specs.declared.Visited.{Visited}
 use Rattle.tables.specs.Answers.{visitedIs, filledIs}
 use Rattle.tables.specs.Call.{Call}
+use Rattle.tables.specs.Trace.{Ask, Kind}
 use Rattle.tables.specs.Sizes.{words, tableWrong, rowWrong}
 use Rattle.firsts.specs.Lent.{Lent, lent, Held, marksOf}
 use Rattle.firsts.specs.Step.{Steps}
@@ -43,6 +44,10 @@ pub record Visits (g : Flat) (p : ℕ) (l : Lent) (said : Outcome Bool) (to : Le
   pub changed : Bool
   pub told : said ≡ answers changed
   pub steps : Steps g p l changed to
+
+-- calls of `visit`, for lists of them
+abbrev pub firstVisits : Kind Ask Lent
+firstVisits = record { due = λ q l. visitDue (q .grammar) (q .prod) l; Does = λ q l. Visits (q .grammar) (q .prod) l }
 
 -- the defined tables: each mark is there exactly if FIRST or EMPTY holds it, and spare bits are zero
 pub record Defined (g : Flat) (l : Lent) : Type 0 where

@@ -6,12 +6,12 @@ use Prim.Native.Nat.{ℕ, _-_, _≤_, _<_}
 use lib.ListN.{length}
 use Rattle.theory.specs.Fills.{turns, Moves, Settles}
 use Rattle.theory.specs.Visits.{Marks, firstOf, nullable, firstVisit}
-use Rattle.grammar.specs.Flat.{Flat, at, denoted}
+use Rattle.grammar.specs.Flat.{Flat, at, form, denoted}
 use Rattle.grammar.specs.Well.{WellFormed, SymbolFits}
 use Rattle.rows.specs.Marks.{Raised}
 use Rattle.rows.specs.Tables.{Became}
 use Rattle.tables.specs.Sizes.{words}
-use Rattle.firsts.specs.Lent.{Lent, Held, Spared, marksOf, form}
+use Rattle.firsts.specs.Lent.{Lent, Held, Spared, marksOf}
 
 -- what a walk over the symbols from a up to e for rule o asks
 pub record Walkable (R T : ℕ) (symbols : List ℕ) (a e o : ℕ) (l : Lent) : Type 0 where

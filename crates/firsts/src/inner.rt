@@ -1,5 +1,5 @@
 // FIRST and EMPTY below the public calls: the walk, one production's step, rounds until none changes anything.
-use grammar::inner::start_at;
+use grammar::inner::prod_at;
 use grammar::inner::wide;
 use tables::inner::turn_at;
 use tables::inner::words_for;
@@ -75,12 +75,10 @@ pub fn step(
     ensures { λ r. ⌜ Steps (flat rules (now (owners .entry)) (now (starts .entry)) (now (symbols .entry)) (now (costs .entry))) p (lent (now (first .entry)) (now (empty .entry))) r (lent (now (first .exit)) (now (empty .exit))) ⌝ }
 {
     let n = wide(rules);
-    let owner = start_at(owners, p);
-    let a = start_at(starts, p);
-    let e = start_at(starts, p + 1);
-    let w = walk(n, costs.len(), symbols, a, e, owner, first, empty);
+    let q = prod_at(owners, starts, p);
+    let w = walk(n, costs.len(), symbols, q.from, q.to, q.owner, first, empty);
     if w.past {
-        let got = rows::inner::set(empty, words_for(n), 0, owner);
+        let got = rows::inner::set(empty, words_for(n), 0, q.owner);
         return w.new | got;
     }
     w.new

@@ -4,6 +4,7 @@ use mathlib.Core.List.{List}
 use mathlib.Core.Path.{_≡_, refl, sym, _∙_, ap}
 use Prim.Native.Nat.{ℕ}
 use native.Mathlib.Omega.{arith}
+use Rattle.theory.proofs.Bools.{bool-eq}
 use Rattle.grammar.specs.Outcome.{Outcome, answers, refused}
 use Rattle.tables.specs.declared.Asked.{Asked}
 use Rattle.tables.specs.declared.Asked.the-variants.{Yes, No, Refused as NotAsked}
@@ -12,7 +13,7 @@ use Rattle.tables.specs.declared.Visited.the-variants.{Changed, Same, Re
 use Rattle.tables.specs.declared.Filled.{Filled}
 use Rattle.tables.specs.declared.Filled.the-variants.{Done, Refused as NotFilled}
 use Rattle.tables.specs.Answers.{askedIs, visitedIs, filledIs, askedOf, visitedOf}
-use Rattle.tables.specs.Call.{Call}
+use Rattle.tables.specs.Call.{Call, Stepped, Visits, Leaves}
 
 module _ {A : Type 0} where
   not-both : {x : A} {n : ℕ} → answers x ≡ refused n → ⊥
@@ -46,6 +47,23 @@ pub call-one : {A M : Type 0} {Does : Outcome A → M → Type 0} {before : M} �
     → (due : Outcome (Unit {0})) {s t : Outcome A} {a b : M} → Call due Does before s a → Call due Does before t b → Both s t a b
 call-one h (answers tt) {s} {t} {a} {b} x y = h s t a b (x .does refl) (y .does refl)
 call-one h (refused n) x y = record { said = x .refuses n refl ∙ sym (y .refuses n refl); left = x .keeps n refl ∙ sym (y .keeps n refl) }
+
+-- where what a step makes is one, so is what a visit says and leaves; and what a clear or a fill leaves
+module _ {M : Type 0} where
+  stepped-said : {Became : M → Type 0} {before : M} → ((a b : M) → Became a → Became b → a ≡ b) → (x y : Bool) (a b : M) → Stepped Became before x a → Stepped Became before y b → x ≡ true → y ≡ true
+  stepped-said h x true a b s t e = refl
+  stepped-said h x false a b s t e = absurd (s .told e (h a b (s .became) (t .became) ∙ t .still refl))
+
+  pub visits-one : {Became : M → Type 0} {before : M} → ((a b : M) → Became a → Became b → a ≡ b) → (s t : Outcome Bool) (a b : M) → Visits Became before s a → Visits Became before t b → Both s t a b
+  visits-one h s t a b x y = record {
+    said = x .answer
+        ∙ ap answers (bool-eq (x .changed) (y .changed) (stepped-said h _ _ a b (x .steps) (y .steps)) (stepped-said h _ _ b a (y .steps) (x .steps)))
+        ∙ sym (y .answer);
+    left = h a b (x .steps .became) (y .steps .became);
+  }
+
+  pub leaves-one : {Left : M → Type 0} → ((a b : M) → Left a → Left b → a ≡ b) → (s t : Outcome (Unit {0})) (a b : M) → Leaves Left s a → Leaves Left t b → Both s t a b
+  leaves-one h s t a b x y = record { said = x .done ∙ sym (y .done); left = h a b (x .left) (y .left) }
 
 -- answers are told apart: each is read back from its outcome
 told-apart : {A B : Type 0} (is : A → Outcome B) (back : Outcome B → A) → ((a : A) → back (is a) ≡ a) → (a b : A) → is a ≡ is b → a ≡ b

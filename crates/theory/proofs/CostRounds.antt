@@ -53,38 +53,58 @@ module _ (g : Grammar) (k : ℕ → ℕ) where
     | inr l ↦ run-reach v p n l _ (visit-capped g k q c h) (omega (arith, form-mono k c (costVisit g k q c) (visit-below g k q c h) (g .body p)))
   ]
 
+-- entries are at most 65536, and none is known outside the rules
+pub record Fits (R : ℕ) (c : Costs) : Type 0 where
+  pub cap : Capped c
+  pub out : (r : ℕ) → R ≤ r → c r ≡ 65536
+
 -- true costs, and none outside the rules
 record Good (g : Grammar) (k : ℕ → ℕ) (c : Costs) : Type 0 where
   true′ : CostTrue g k c
   out : (r : ℕ) → g .rules ≤ r → c r ≡ 65536
 
 module _ (g : Grammar) (k : ℕ → ℕ) (ok : Proper g) where
+  pub cost-visit-fits : (p : ℕ) → p < g .prods → (c : Costs) → Fits (g .rules) c → Fits (g .rules) (costVisit g k p c)
+  cost-visit-fits p lt c i = record {
+    cap = visit-capped g k p c (i .cap);
+    out = λ r le. elim (visit-cases g k p c (i .cap) r) [ inl e ↦ absurd (omega (arith, e .0, ok .owner p lt)) | inr e ↦ e ∙ i .out r le ];
+  }
+
   visit-good : (p : ℕ) → p < g .prods → (c : Costs) → Good g k c → Good g k (costVisit g k p c)
   visit-good p lt c i = record {
     true′ = cost-visit-true g k p lt c (i .true′);
-    out = λ r le. elim (visit-cases g k p c (i .true′ .cap) r) [ inl e ↦ absurd (omega (arith, e .0, ok .owner p lt)) | inr e ↦ e ∙ i .out r le ];
+    out = cost-visit-fits p lt c (record { cap = i .true′ .cap; out = i .out }) .out;
   }
 
   cleared-good : Good g k costCleared
   cleared-good = record { true′ = cost-cleared-true g k; out = λ r le. refl }
 
-  -- each change lowers an entry: so there is a table at rest, if only after many rounds
-  cost-climb : Climb (costVisit g k) (Good g k) (g .prods) (g .rules * 65536)
-  cost-climb = record {
-    size = λ c. sum (g .rules) (λ r. 65536 - c r);
-    kept = visit-good;
-    bound = λ c i. sum-le (g .rules) 65536 (λ r. 65536 - c r) (λ r lt. omega arith);
-    grows = λ p lt c i. elim (sum-grows (g .rules) _ _ (λ r. costVisit g k p c r ≡ c r) (λ r q. ap (λ z. 65536 - z) (sym q)) (λ r _. each p c i r)) [
-      | inl q ↦ inl (fun-ext (λ r. elim (decLt r (g .rules)) [ yes l ↦ q r l | no n ↦ visit-good p lt c i .out r (omega arith) ∙ sym (i .out r (omega arith)) ]))
-      | inr l ↦ inr l
-    ];
-  }
-    where
-      each : (p : ℕ) (c : Costs) → Good g k c → (r : ℕ) → (costVisit g k p c r ≡ c r) ⊎ (65536 - c r < 65536 - costVisit g k p c r)
-      each p c i r = elim (visit-cases g k p c (i .true′ .cap) r) [
-        | inl e ↦ elim (decLe (c r) (formCost k c (g .body p))) [ yes l ↦ inl (omega (arith, e .1)) | no l ↦ inr (omega (arith, e .1, i .true′ .cap r)) ]
-        | inr e ↦ inl e
-      ]
+  pub cleared-fits : Fits (g .rules) costCleared
+  cleared-fits = record { cap = λ r. omega arith; out = λ r le. refl }
+
+  each : (p : ℕ) (c : Costs) → Fits (g .rules) c → (r : ℕ) → (costVisit g k p c r ≡ c r) ⊎ (65536 - c r < 65536 - costVisit g k p c r)
+  each p c i r = elim (visit-cases g k p c (i .cap) r) [
+    | inl e ↦ elim (decLe (c r) (formCost k c (g .body p))) [ yes l ↦ inl (omega (arith, e .1)) | no l ↦ inr (omega (arith, e .1, i .cap r)) ]
+    | inr e ↦ inl e
+  ]
+
+  pub cost-grows : (p : ℕ) → p < g .prods → (c : Costs) → Fits (g .rules) c → (costVisit g k p c ≡ c) ⊎ (sum (g .rules) (λ r. 65536 - c r) < sum (g .rules) (λ r. 65536 - costVisit g k p c r))
+  cost-grows p lt c i = elim (sum-grows (g .rules) _ _ (λ r. costVisit g k p c r ≡ c r) (λ r q. ap (λ z. 65536 - z) (sym q)) (λ r _. each p c i r)) [
+    | inl q ↦ inl (fun-ext (λ r. elim (decLt r (g .rules)) [ yes l ↦ q r l | no n ↦ cost-visit-fits p lt c i .out r (omega arith) ∙ sym (i .out r (omega arith)) ]))
+    | inr l ↦ inr l
+  ]
+
+  pub cost-bounded : (c : Costs) → sum (g .rules) (λ r. 65536 - c r) ≤ g .rules * 65536
+  cost-bounded c = sum-le (g .rules) 65536 (λ r. 65536 - c r) (λ r lt. omega arith)
+
+-- each change lowers an entry: so there is a table at rest, if only after many rounds
+unfoldable pub cost-climb : (g : Grammar) (k : ℕ → ℕ) (ok : Proper g) → Climb (costVisit g k) (Fits (g .rules)) (g .prods) (g .rules * 65536)
+cost-climb g k ok = record {
+  size = λ c. sum (g .rules) (λ r. 65536 - c r);
+  kept = cost-visit-fits g k ok;
+  bound = λ c i. cost-bounded g k ok c;
+  grows = cost-grows g k ok;
+}
 
 -- f is a table at rest: R rounds come to it
 module _ (g : Grammar) (k : ℕ → ℕ) (ok : Proper g) (f : Costs) (fine : Good g k f) (st : Rest (costVisit g k) (g .prods) f) where
@@ -180,8 +200,8 @@ module _ (g : Grammar) (k : ℕ → ℕ) (ok : Proper g) (f : Costs) (fine : Goo
 module _ (g : Grammar) (k : ℕ → ℕ) (ok : Proper g) where
   cost-settles : (vs : List (List ℕ)) → AllRounds (g .prods) vs → g .rules ≤ length vs → Rest (costVisit g k) (g .prods) (rounds (costVisit g k) vs costCleared)
   cost-settles vs rd len =
-      let u = until-ends (cost-climb g k ok) (upto (g .prods)) (upto-round (g .prods)) costCleared (cleared-good g k ok) in
-      let r = until-rest (cost-climb g k ok) (upto (g .prods)) (upto-round (g .prods)) (u .1) (cleared-good g k ok) in
+      let u = until-ends (cost-climb g k ok) (upto (g .prods)) (upto-round (g .prods)) costCleared (cleared-fits g k ok) in
+      let r = until-rest (cost-climb g k ok) (upto (g .prods)) (upto-round (g .prods)) (u .1) (cleared-fits g k ok) in
       let i = until-keeps (costVisit g k) (g .prods) (Good g k) (visit-good g k ok) (upto-round (g .prods) .valid) (u .1) (cleared-good g k ok) in
       rw (rounds-final g k ok (u .0) i r vs rd len) r
 

@@ -7,7 +7,7 @@ use native.Mathlib.Omega.{arith}
 use native.Mathlib.Nat.{mul-le-mul, lt-of-le-of-lt}
 use lib.Dec.{eqb, leb}
 use lib.ListN.{length}
-use borrow.Author.Tests.{le-leb, lt-leb, eqb-true, not-false}
+use borrow.Author.Tests.{le-leb, lt-leb, eqb-true, eq-eqb, not-false}
 use Rattle.grammar.specs.Flat.{Flat}
 use Rattle.grammar.specs.Outcome.{answers, refused}
 use Rattle.grammar.specs.Production.{checkedIs, checkOf, numberOf}
@@ -18,7 +18,7 @@ use Rattle.rows.specs.Marks.{place, mark}
 use Rattle.rows.proofs.Marks.{row-in}
 use Rattle.tables.specs.declared.Asked.{Asked}
 use Rattle.tables.specs.Answers.{askedIs, askedOf}
-use Rattle.tables.specs.Sizes.{words, tableWrong, rowWrong}
+use Rattle.tables.specs.Sizes.{words, tableWrong, rowWrong, numbersWrong}
 use Rattle.tables.specs.Queries.{isSetOf, isRuleSetOf}
 
 -- the lengths of the tests
@@ -29,6 +29,23 @@ table-long R T table e = eqb-true _ _ (not-false _ e)
 pub row-long : (R : ℕ) (row : List ℕ) → rowWrong R row ≡ false → length row ≡ words R
 unfolding rowWrong
 row-long R row e = eqb-true _ _ (not-false _ e)
+
+pub numbers-long : (R : ℕ) (numbers : List ℕ) → numbersWrong R numbers ≡ false → length numbers ≡ R
+unfolding numbersWrong
+numbers-long R numbers e = eqb-true _ _ (not-false _ e)
+
+-- tables of their lengths are not refused
+pub table-right : (R T : ℕ) (table : List ℕ) → length table ≡ R * words T → tableWrong R T table ≡ false
+unfolding tableWrong
+table-right R T table e = rw (eq-eqb (length table) (R * words T) e)
+
+pub row-right : (R : ℕ) (row : List ℕ) → length row ≡ words R → rowWrong R row ≡ false
+unfolding rowWrong
+row-right R row e = rw (eq-eqb (length row) (words R) e)
+
+pub numbers-right : (R : ℕ) (numbers : List ℕ) → length numbers ≡ R → numbersWrong R numbers ≡ false
+unfolding numbersWrong
+numbers-right R numbers e = rw (eq-eqb (length numbers) R e)
 
 pub asked-is : (b : Bool) (r : Asked) → r ≡ askedOf b → askedIs r ≡ answers b
 asked-is true r e = rw e
@@ -88,3 +105,7 @@ table-not R T w table e = rw e
 pub row-not : (R w : ℕ) (row : List ℕ) → w ≡ words R → not (eqb (length row) w) ≡ rowWrong R row
 unfolding rowWrong
 row-not R w row e = rw e
+
+pub numbers-not : (R : ℕ) (numbers : List ℕ) → not (eqb (length numbers) R) ≡ numbersWrong R numbers
+unfolding numbersWrong
+numbers-not R numbers = refl

@@ -17,3 +17,7 @@ tableWrong R T table = not (eqb (length table) (R * words T))
 -- 7: a table by rule is not one row of (R+31)/32 words
 unfoldable pub rowWrong : ℕ → List ℕ → Bool
 rowWrong R row = not (eqb (length row) (words R))
+
+-- 7: a table of one number a rule is not R numbers
+unfoldable pub numbersWrong : ℕ → List ℕ → Bool
+numbersWrong R numbers = not (eqb (length numbers) R)

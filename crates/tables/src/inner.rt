@@ -5,7 +5,7 @@ ghost use mathlib.Core.Path.{_≡_};
 ghost use Prim.Native.Nat.{_≤_, _<_};
 ghost use Rattle.theory.specs.Fills.{turn};
 ghost use Rattle.tables.specs.Answers.{askedOf, visitedOf};
-ghost use Rattle.tables.specs.Sizes.{words, tableWrong, rowWrong};
+ghost use Rattle.tables.specs.Sizes.{words, tableWrong, rowWrong, numbersWrong};
 
 pub fn words_for(n: usize) -> usize
     requires { ⌜ n ≤ 512 ⌝ }
@@ -28,6 +28,13 @@ pub fn row_wrong(rules: usize, row: &[u32]) -> bool
     ensures { λ r. ⌜ r ≡ rowWrong rules (now (row .entry)) ⌝ }
 {
     row.len() != words_for(rules)
+}
+
+// Refusal 7 for a table of one number a rule.
+pub fn numbers_wrong(rules: usize, numbers: &[u32]) -> bool
+    ensures { λ r. ⌜ r ≡ numbersWrong rules (now (numbers .entry)) ⌝ }
+{
+    numbers.len() != rules
 }
 
 pub fn asked(mark: bool) -> Asked

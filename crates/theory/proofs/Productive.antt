@@ -56,23 +56,23 @@ pub productive-one : (g : Grammar) (m n : Row) → ProductiveExact g m → Produ
 productive-one g m n x y = fun-ext (λ r. bool-eq (m r) (n r) (λ e. y r .0 (x r .1 e)) (λ e. x r .0 (y r .1 e)))
 
 module _ (g : Grammar) (ok : Proper g) where
-  kept : (p : ℕ) → p < g .prods → (m : Row) → Inside (g .rules) 1 (column m) → Inside (g .rules) 1 (column (productiveVisit g p m))
-  kept p lt m w r zero e = elim (or-split (m r) _ e) [
+  pub productive-kept : (p : ℕ) → p < g .prods → (m : Row) → Inside (g .rules) 1 (column m) → Inside (g .rules) 1 (column (productiveVisit g p m))
+  productive-kept p lt m w r zero e = elim (or-split (m r) _ e) [
     | inl k ↦ w r zero k
     | inr k ↦ (subst (λ z. z < g .rules) (sym (eqb-true r _ (and-split _ _ k .0))) (ok .owner p lt), omega arith)
   ]
-  kept p lt m w r (suc t) e = absurd (false≢true e)
+  productive-kept p lt m w r (suc t) e = absurd (false≢true e)
 
-  under : (p : ℕ) (m : Row) → Under (column m) (column (productiveVisit g p m))
-  under p m r zero e = or-left _ e
-  under p m r (suc t) e = e
+  pub productive-under : (p : ℕ) (m : Row) → Under (column m) (column (productiveVisit g p m))
+  productive-under p m r zero e = or-left _ e
+  productive-under p m r (suc t) e = e
 
-  pub productive-marked : Marked (productiveVisit g) (λ m. Inside (g .rules) 1 (column m)) (g .prods) (g .rules) 1
+  unfoldable pub productive-marked : Marked (productiveVisit g) (λ m. Inside (g .rules) 1 (column m)) (g .prods) (g .rules) 1
   productive-marked = record {
     view = column;
-    kept = kept;
+    kept = productive-kept;
     inside = λ m w. w;
-    under = under;
+    under = productive-under;
     same = λ p m e. ap (λ z r. z r zero) (sym e);
   }
 

@@ -1,0 +1,5 @@
+pub mod Marking
+pub mod Summing
+pub mod Stepping
+pub mod Moving
+pub mod Rounding

@@ -3,3 +3,6 @@ pub mod Summing
 pub mod Stepping
 pub mod Moving
 pub mod Rounding
+pub mod Filling
+pub mod Calling
+pub mod Asking

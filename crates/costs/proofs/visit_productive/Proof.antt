@@ -1,78 +1,58 @@
-use native.Mathlib.Omega.{arith}
+use Rattle.grammar.proofs.Callers.{few-rules}
+use Rattle.tables.specs.Sizes.{rowWrong}
+use Rattle.costs.specs.Step.{ProductiveBecame}
+use Rattle.costs.proofs.Calling.{refuses, seven, eleven, row-visitable, makes}
 use borrow.Author.Needs.{needs}
 use Rattle.costs.proofs.visit_productive.Statement.{statement}
 use Rattle.costs.proofs.visit_productive.Tie as tie
-use Rattle.costs.proofs.visit_productive.Reads as reads
-use Rattle.costs.proofs.visit_productive.Lts as lts
-use Rattle.costs.proofs.inner.productive_step.Reads as productive-step-reads
-use Rattle.grammar.proofs.check.Reads as check-reads
-use Rattle.grammar.proofs.inner.number.Reads as number-reads
-use Rattle.grammar.proofs.inner.wide.Reads as wide-reads
-use Rattle.tables.proofs.inner.row_wrong.Reads as row-wrong-reads
-use Rattle.tables.proofs.inner.visited.Reads as visited-reads
 
--- src/lib.rt:63:9
 check-requires : tie.Need-check-requires
 check-requires c κs = search needs
 
 enum-told : tie.Need-enum-told
 enum-told c = search needs
 
--- src/lib.rt:65:33
 enum-told-2 : tie.Need-enum-told-2
 enum-told-2 c = search needs
 
--- src/lib.rt:65:33
 number-requires : tie.Need-number-requires
 number-requires c κs = search needs
 
--- src/lib.rt:65:9
 returns : tie.Need-returns
-returns c = search needs
+returns c = search (needs, refuses)
 
--- src/lib.rt:67:9
 wide-requires : tie.Need-wide-requires
 wide-requires c κs = search needs
 
--- src/lib.rt:68:8
 row-wrong-requires : tie.Need-row-wrong-requires
-row-wrong-requires c κs = search needs
+row-wrong-requires c κs = search (needs, few-rules)
 
--- src/lib.rt:69:9
 same-length : tie.Need-same-length
 same-length c = search needs
 
--- src/lib.rt:69:9
 returns-2 : tie.Need-returns-2
-returns-2 c = search needs
+returns-2 c = search (needs, seven rowWrong)
 
--- src/lib.rt:71:9
 wide-requires-2 : tie.Need-wide-requires-2
 wide-requires-2 c κs = search needs
 
--- src/lib.rt:73:9
 same-length-2 : tie.Need-same-length-2
 same-length-2 c = search needs
 
--- src/lib.rt:73:9
 returns-3 : tie.Need-returns-3
-returns-3 c = search needs
+returns-3 c = search (needs, eleven rowWrong)
 
--- src/lib.rt:75:13
 productive-step-requires : tie.Need-productive-step-requires
-productive-step-requires c κs = search needs
+productive-step-requires c κs = let d = c .before in let v = d .before in let r = v .before .before in let w = r .before .before in let m = w .before in let k = m .before .before in row-visitable _ _ _ (k .check .ensures) (m .enum-told .given .1) _ (w .wide .ensures .0) _ (r .row-wrong .ensures) (v .before .if1 .left) _ (d .if2 .left) (λ i. k .before .slice-known .given i .fits)
 
--- src/lib.rt:75:5
 visited-requires : tie.Need-visited-requires
 visited-requires c κs = search needs
 
--- src/lib.rt:52:1
 same-length-3 : tie.Need-same-length-3
 same-length-3 c = search needs
 
--- src/lib.rt:52:1
 returns-4 : tie.Need-returns-4
-returns-4 c = search needs
+returns-4 c = search (needs, makes rowWrong ProductiveBecame)
 
 pub visit-productive-spec : {M : Type 1} → statement M
 visit-productive-spec =

@@ -75,6 +75,11 @@ pub costs-fit : (g : Flat) (cost : List ℕ) → CostBegun g cost → Fits (g .r
 unfolding costsOf
 costs-fit g cost b = record { cap = b .cap; out = λ r le. List·getD-eq-default cost 65536 (omega (arith, b .long)) }
 
+-- numbers with the same entries are the same numbers
+pub costs-words : (a b : List ℕ) → length a ≡ length b → ((r : ℕ) → costsOf a r ≡ costsOf b r) → a ≡ b
+unfolding costsOf
+costs-words a b e h = ext-getD 65536 a b e (λ r lr. h r)
+
 module _ (g : Flat) (w : WellFormed g) where
   abbrev pub costFilling : Filling (costVisit (denoted g) (price g)) costsOf Long (length (g .owners))
   costFilling = record {
@@ -84,11 +89,6 @@ module _ (g : Flat) (w : WellFormed g) where
     same = λ a. refl;
     then = λ a b d x y. y ∙ x;
   }
-
-  -- numbers with the same entries are the same numbers
-  pub costs-words : (a b : List ℕ) → length a ≡ length b → ((r : ℕ) → costsOf a r ≡ costsOf b r) → a ≡ b
-  unfolding costsOf
-  costs-words a b e h = ext-getD 65536 a b e (λ r lr. h r)
 
   abbrev pub costStepping : Stepping (costVisit (denoted g) (price g)) costsOf Long (length (g .owners)) (λ ws. length ws ≡ g .rules) (CostBecame g)
   costStepping = record {

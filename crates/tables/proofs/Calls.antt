@@ -66,7 +66,7 @@ module _ {M : Type 0} where
   leaves-one h s t a b x y = record { said = x .done ∙ sym (y .done); left = h a b (x .left) (y .left) }
 
 -- answers are told apart: each is read back from its outcome
-told-apart : {A B : Type 0} (is : A → Outcome B) (back : Outcome B → A) → ((a : A) → back (is a) ≡ a) → (a b : A) → is a ≡ is b → a ≡ b
+pub told-apart : {A B : Type 0} (is : A → Outcome B) (back : Outcome B → A) → ((a : A) → back (is a) ≡ a) → (a b : A) → is a ≡ is b → a ≡ b
 told-apart is back h a b e = sym (h a) ∙ ap back e ∙ h b
 
 pub asked-one : (a b : Asked) → askedIs a ≡ askedIs b → a ≡ b

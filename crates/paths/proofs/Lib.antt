@@ -1,0 +1,5 @@
+pub mod Linking
+pub mod Going
+pub mod Turning
+pub mod Steps
+pub mod Calling

@@ -1,14 +1,13 @@
 -- What the returns of `has_path` owe, from what `check`, the test and the search answered.
 use mathlib.Core.Bool.{Bool, true, false, _||_}
 use mathlib.Core.List.{List}
-use mathlib.Core.Path.{_≡_, refl, sym, _∙_, ap, subst}
-use Prim.Native.Nat.{ℕ, _≤_, _<_}
-use native.Mathlib.Omega.{arith}
+use mathlib.Core.Path.{_≡_, sym, _∙_, subst}
+use Prim.Native.Nat.{ℕ}
 use lib.Dec.{leb}
 use borrow.Author.Tests.{leb-false}
 use Rattle.theory.proofs.Bools.{or-none}
-use Rattle.grammar.specs.Flat.{Flat, flat}
-use Rattle.grammar.specs.Outcome.{Outcome, answers, refused}
+use Rattle.grammar.specs.Flat.{flat}
+use Rattle.grammar.specs.Outcome.{refused}
 use Rattle.grammar.specs.Production.{checkedIs, checkOf, numberOf}
 use Rattle.grammar.specs.Well.{WellFormed}
 use Rattle.grammar.specs.declared.Checked.{Checked}

@@ -1,7 +1,7 @@
 -- One symbol, the symbols of a production, the productions of a rule: `to` is found, or what they hold is seen or to be done.
 use mathlib.Core.Bool.{Bool, true, false, not, _&&_, _||_, cond, or-true, or-false, and-true, and-false, false≢true, true≢false}
 use mathlib.Core.List.{List}
-use mathlib.Core.Logic.{_⊎_, inl, inr}
+use mathlib.Core.Logic.{inl, inr}
 use mathlib.Core.Path.{_≡_, refl, sym, _∙_, ap, subst, fun-ext}
 use Prim.Native.Nat.{ℕ, _+_, _-_, _≤_, _<_}
 use native.Mathlib.Decide.{ℕ-discrete, decLt}
@@ -10,18 +10,16 @@ use lib.Dec.{eqb}
 use lib.ListN.{length, getD, set, length-set}
 use lib.Seq.{getD-set-same, getD-set-other}
 use borrow.Author.Tests.{ne-eqb, le-ltb, not-true, not-false}
-use Rattle.theory.specs.Grammar.{rul}
-use Rattle.theory.specs.Search.{State, add, enter, Passed}
-use Rattle.theory.specs.Visits.{Row}
+use Rattle.theory.specs.Search.{add, Passed}
 use Rattle.theory.proofs.Bools.{eqb-same}
 use Rattle.theory.proofs.Search.{passed-none, passed-then, passed-as, passed-add}
 use Rattle.grammar.specs.Flat.{at, symbol, flat}
 use Rattle.grammar.specs.Well.{WellFormed}
 use Rattle.grammar.proofs.Denoted.{symbol-rule}
 use Rattle.grammar.proofs.Well.{laid-end}
-use Rattle.paths.specs.Links.{Leads, Linked}
-use Rattle.paths.specs.Lists.{row, state, Long, Is, Among, Holds, Goes}
-use Rattle.paths.specs.Search.{OneOf, AllOf, Begun, Ready}
+use Rattle.paths.specs.Links.{Leads}
+use Rattle.paths.specs.Lists.{row, state, Is, Among, Holds, Goes}
+use Rattle.paths.specs.Search.{Markable, Walkable, Ready}
 
 -- a mark set, and one cleared
 pub row-set : (marks : List Bool) (w : ℕ) → w < length marks → row (set marks w true) ≡ (λ r. row marks r || eqb r w)
@@ -37,7 +35,7 @@ row-clear marks w lt = fun-ext (λ r. elim (ℕ-discrete r w) [
 ])
 
 -- one symbol
-module _ (s to : ℕ) (seen todo : List Bool) (ok : OneOf s seen todo) where
+module _ (s to : ℕ) (seen todo : List Bool) (ok : Markable s seen todo) where
   pub symbol-token : s < 32768 → Goes to (Is s) seen todo false todo
   symbol-token l = record {
     yes = λ e. absurd (false≢true e);
@@ -81,12 +79,12 @@ pub record Going (to : ℕ) (symbols : List ℕ) (a e : ℕ) (seen todo : List B
   pub passed : Passed to (Among symbols a i) (state seen todo false) (state seen now false)
   pub long : length now ≡ length todo
 
-module _ (to : ℕ) (symbols : List ℕ) (a e : ℕ) (seen todo : List Bool) (ok : AllOf symbols a e seen todo) where
+module _ (to : ℕ) (symbols : List ℕ) (a e : ℕ) (seen todo : List Bool) (ok : Walkable symbols a e seen todo) where
   pub prod-start : Going to symbols a e seen todo todo a
   prod-start = record { low = omega arith; high = ok .rise; passed = passed-none to _ (λ q m. omega (arith, m .low, m .high)) _; long = refl }
 
   module _ (now : List Bool) (i : ℕ) (g : Going to symbols a e seen todo now i) where
-    pub prod-one : (s : ℕ) → s ≡ at symbols i → i < e → OneOf s seen now
+    pub prod-one : (s : ℕ) → s ≡ at symbols i → i < e → Markable s seen now
     prod-one s is lt = record { fits = subst (λ z. z < 33280) (sym is) (ok .fits i (omega (arith, ok .high))); long = record { seen-long = ok .long .seen-long; todo-long = g .long ∙ ok .long .todo-long } }
 
     module _ (s : ℕ) (is : s ≡ at symbols i) (lt : i < e) (found : Bool) (next : List Bool) (x : Goes to (Is s) seen now found next) where
@@ -153,7 +151,7 @@ module _ (owners starts symbols head next : List ℕ) (r to : ℕ) (seen todo : 
     rule-next-in lt = omega (arith, well .sizes .prods-high)
 
     module _ (lt : p < length owners) (a e : ℕ) (ea : a ≡ at starts p) (ee : e ≡ at starts (p + 1)) where
-      pub rule-prod : AllOf symbols a e seen now
+      pub rule-prod : Walkable symbols a e seen now
       rule-prod = record {
         rise = rw (ea, ee) (well .laid .rise p lt);
         high = rw ee (laid-end (well .laid) lt);

@@ -1,16 +1,15 @@
 -- The steps of the search are those of the denoted grammar: a production of a holds b.
-use mathlib.Core.Bool.{Bool, true, false, false≢true, true≢false}
-use mathlib.Core.List.{List, [], _∷_, map, List·Memᴰ, List·Memᴰ·head, List·Memᴰ·tail, List·Memᴰ·cases-cons, List·Memᴰ·not-nil}
+use mathlib.Core.Bool.{Bool, true, false, false≢true}
+use mathlib.Core.List.{List, map, List·Memᴰ, List·Memᴰ·head, List·Memᴰ·tail, List·Memᴰ·cases-cons, List·Memᴰ·not-nil}
 use mathlib.Core.Logic.{inl, inr, _↔_}
 use mathlib.Core.Path.{_≡_, refl, sym, _∙_, ap, subst}
-use Prim.Native.Nat.{ℕ, zero, suc, _+_, _-_, _≤_, _<_}
+use Prim.Native.Nat.{ℕ, zero, suc, _+_, _-_, _≤_}
 use native.Mathlib.Decide.{ℕ-discrete}
 use native.Mathlib.Omega.{arith}
 use lib.ListN.{length}
 use lib.Seq.{slice, slice-empty, slice-cons}
 use Rattle.theory.specs.Definitions.{Path}
 use Rattle.theory.specs.Grammar.{rul}
-use Rattle.theory.specs.Search.{Chain}
 use Rattle.theory.proofs.Paths.{Uses, path-chain}
 use Rattle.theory.proofs.Search.{chain-map}
 use Rattle.grammar.specs.Flat.{Flat, at, symbol, denoted}

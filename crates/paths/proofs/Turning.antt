@@ -1,17 +1,17 @@
 -- A round, rule by rule, and rounds until one finds `to` or nothing to do.
 use mathlib.Core.Bool.{Bool, true, false, not, _||_, false≢true, true≢false}
 use mathlib.Core.List.{List}
-use mathlib.Core.Logic.{_⊎_, inl, inr}
+use mathlib.Core.Logic.{inl, inr}
 use mathlib.Core.Path.{_≡_, refl, sym, _∙_, ap, ap₂, subst, fun-ext}
 use Prim.Native.Nat.{ℕ, zero, suc, _+_, _-_, _≤_, _<_}
 use native.Mathlib.Decide.{decLt}
 use native.Mathlib.Nat.{not-suc-le-zero}
 use native.Mathlib.Omega.{arith}
 use lib.Dec.{eqb}
-use lib.ListN.{length, getD, set, replicate, length-set, getD-replicate}
+use lib.ListN.{getD, set, replicate, length-set}
 use borrow.Author.Tests.{not-true, not-false}
 use Rattle.theory.specs.Below.{count}
-use Rattle.theory.specs.Search.{Chain, State, start, enter, Passed, Fair, Left}
+use Rattle.theory.specs.Search.{State, start, enter, Passed, Fair, Left}
 use Rattle.theory.proofs.Search.{reach-on, left-none, left-idle, left-work, left-then, start-fair, fair-opened, idle-none, seen-upto}
 use Rattle.grammar.specs.Flat.{at, flat}
 use Rattle.grammar.specs.Well.{WellFormed}

@@ -2,7 +2,7 @@
 use mathlib.Core.Bool.{Bool, true, false}
 use mathlib.Core.List.{List}
 use mathlib.Core.Path.{_≡_}
-use Prim.Native.Nat.{ℕ, _+_, _≤_, _<_}
+use Prim.Native.Nat.{ℕ, _≤_, _<_}
 use lib.ListN.{length}
 use Rattle.theory.specs.Search.{Chain, Fair, Left}
 use Rattle.grammar.specs.Flat.{at, flat}
@@ -11,12 +11,12 @@ use Rattle.paths.specs.Lists.{state, Long, Holds}
 use Rattle.paths.specs.Links.{Linked}
 
 -- what one symbol asks: that it is no rule past 511
-pub record OneOf (s : ℕ) (seen todo : List Bool) : Type 0 where
+pub record Markable (s : ℕ) (seen todo : List Bool) : Type 0 where
   pub fits : s < 33280
   pub long : Long seen todo
 
 -- the same of the symbols from a up to, without, e
-pub record AllOf (symbols : List ℕ) (a e : ℕ) (seen todo : List Bool) : Type 0 where
+pub record Walkable (symbols : List ℕ) (a e : ℕ) (seen todo : List Bool) : Type 0 where
   pub rise : a ≤ e
   pub high : e ≤ length symbols
   pub fits : (k : ℕ) → k < length symbols → at symbols k < 33280

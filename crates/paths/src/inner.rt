@@ -1,10 +1,9 @@
 // The search below `has_path`: links of each rule's productions, then rounds over the rules until one finds nothing to do.
 use grammar::inner::start_at;
 use grammar::inner::wide;
-ghost use lib.ListN.{length};
 ghost use Rattle.paths.specs.Lists.{Is, Among, Holds, Goes};
 ghost use Rattle.paths.specs.Links.{Linked, Linkable};
-ghost use Rattle.paths.specs.Search.{OneOf, AllOf, Begun, Ready, Turns, Searchable, Finds};
+ghost use Rattle.paths.specs.Search.{Markable, Walkable, Begun, Ready, Turns, Searchable, Finds};
 
 // What a round came to: whether it found `to`, and whether it found nothing to do.
 pub struct Turn {
@@ -29,7 +28,7 @@ fn links(owners: &[u16], head: &mut [u16; 512], next: &mut [u16; 4096])
 
 // One symbol: whether it is `to`. Another rule that is not seen is to be done.
 fn symbol(s: u16, to: usize, seen: &[bool; 512], todo: &mut [bool; 512]) -> bool
-    requires { ⌜ OneOf s (now seen) (now todo) ⌝ }
+    requires { ⌜ Markable s (now seen) (now todo) ⌝ }
     ensures { λ r. ⌜ Goes to (Is s) (now (seen .entry)) (now (todo .entry)) r (now (todo .exit)) ⌝ }
 {
     if s < 32768 {
@@ -54,7 +53,7 @@ fn prod(
     seen: &[bool; 512],
     todo: &mut [bool; 512],
 ) -> bool
-    requires { ⌜ AllOf (now symbols) a e (now seen) (now todo) ⌝ }
+    requires { ⌜ Walkable (now symbols) a e (now seen) (now todo) ⌝ }
     ensures { λ r. ⌜ Goes to (Among (now (symbols .entry)) a e) (now (seen .entry)) (now (todo .entry)) r (now (todo .exit)) ⌝ }
 {
     let mut i = a;

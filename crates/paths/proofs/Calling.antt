@@ -1,11 +1,10 @@
 -- What the returns of `has_path` owe, from what `check`, the test and the search answered.
-use mathlib.Core.Bool.{Bool, true, false, _||_}
+use mathlib.Core.Bool.{Bool}
 use mathlib.Core.List.{List}
 use mathlib.Core.Path.{_≡_, sym, _∙_, subst}
-use Prim.Native.Nat.{ℕ}
-use lib.Dec.{leb}
-use borrow.Author.Tests.{leb-false}
-use Rattle.theory.proofs.Bools.{or-none}
+use Prim.Native.Nat.{ℕ, _≤_, _<_}
+use native.Mathlib.Omega.{arith}
+use borrow.Author.Tests.{le-leb, lt-leb}
 use Rattle.grammar.specs.Flat.{flat}
 use Rattle.grammar.specs.Outcome.{refused}
 use Rattle.grammar.specs.Production.{checkedIs, checkOf, numberOf}
@@ -28,26 +27,28 @@ module _ (rules : ℕ) (owners starts symbols costs : List ℕ) (a b : ℕ) (c :
   pub path-refused : (n m : ℕ) → c ≡ Refused n → m ≡ numberOf c → Call (pathDue (flat rules owners starts symbols costs) a b) (Answers (flat rules owners starts symbols costs) a b) tt (refused m) tt
   path-refused n m e q = rw (q, e) (call-refused n (after-refused (flat rules owners starts symbols costs) c _ n is e))
 
-  module _ (e : c ≡ Well) (n x y : ℕ) (en : n ≡ rules) (ex : x ≡ a) (ey : y ≡ b) where
-    pub path-9 : (leb n x || leb n y) ≡ true → Call (pathDue (flat rules owners starts symbols costs) a b) (Answers (flat rules owners starts symbols costs) a b) tt (refused 9) tt
-    path-9 k = call-refused 9 (after-well (flat rules owners starts symbols costs) c _ is e ∙ rw (← en, ← ex, ← ey, k))
+  module _ (e : c ≡ Well) (n x : ℕ) (en : n ≡ rules) (ex : x ≡ a) where
+    -- 9 for the first number
+    pub path-9-from : n ≤ x → Call (pathDue (flat rules owners starts symbols costs) a b) (Answers (flat rules owners starts symbols costs) a b) tt (refused 9) tt
+    path-9-from k = call-refused 9 (after-well (flat rules owners starts symbols costs) c _ is e ∙ rw (le-leb rules a (omega arith)))
 
-    module _ (k : (leb n x || leb n y) ≡ false) where
+    module _ (k : x < n) where
       well : WellFormed (flat rules owners starts symbols costs)
       well = well-formed rules owners starts symbols costs c is e
 
       pub path-search : Searchable n owners starts symbols x
-      path-search = record {
-        costs = costs;
-        well = subst (λ z. WellFormed (flat z owners starts symbols costs)) (sym en) well;
-        isRule = leb-false n x (or-none (leb n x) (leb n y) k .0);
-      }
+      path-search = record { costs = costs; well = subst (λ z. WellFormed (flat z owners starts symbols costs)) (sym en) well; isRule = k }
 
-      pub path-does : (found : Bool) (r : Asked) → Finds owners starts symbols x y found → r ≡ askedOf found
-          → Call (pathDue (flat rules owners starts symbols costs) a b) (Answers (flat rules owners starts symbols costs) a b) tt (askedIs r) tt
-      path-does found r f h = call-does (askedIs r) tt (after-well (flat rules owners starts symbols costs) c _ is e ∙ rw (← en, ← ex, ← ey, k)) (record {
-        answer = found;
-        told = asked-is found r h;
-        right = finds-path (flat rules owners starts symbols costs) well a b found
-            (subst (λ z. Finds owners starts symbols z b found) ex (subst (λ z. Finds owners starts symbols x z found) ey f));
-      })
+      module _ (y : ℕ) (ey : y ≡ b) where
+        -- and for the second
+        pub path-9-to : n ≤ y → Call (pathDue (flat rules owners starts symbols costs) a b) (Answers (flat rules owners starts symbols costs) a b) tt (refused 9) tt
+        path-9-to l = call-refused 9 (after-well (flat rules owners starts symbols costs) c _ is e ∙ rw (lt-leb rules a (omega arith), le-leb rules b (omega arith)))
+
+        pub path-does : y < n → (found : Bool) (r : Asked) → Finds owners starts symbols x y found → r ≡ askedOf found
+            → Call (pathDue (flat rules owners starts symbols costs) a b) (Answers (flat rules owners starts symbols costs) a b) tt (askedIs r) tt
+        path-does l found r f h = call-does (askedIs r) tt (after-well (flat rules owners starts symbols costs) c _ is e ∙ rw (lt-leb rules a (omega arith), lt-leb rules b (omega arith))) (record {
+          answer = found;
+          told = asked-is found r h;
+          right = finds-path (flat rules owners starts symbols costs) well a b found
+              (subst (λ z. Finds owners starts symbols z b found) ex (subst (λ z. Finds owners starts symbols x z found) ey f));
+        })

@@ -28,8 +28,11 @@ pub fn has_path(
     };
     let n = wide(rules);
     let a = wide(from.0);
+    if n <= a {
+        return Asked::Refused(9);
+    }
     let b = wide(to.0);
-    if (n <= a) | (n <= b) {
+    if n <= b {
         return Asked::Refused(9);
     }
     asked(inner::search(n, owners, starts, symbols, a, b))

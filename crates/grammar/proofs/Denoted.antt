@@ -46,7 +46,7 @@ symbol-token s t e = go (ltb s 32768) refl e
     go true q e = (ltb-true s 32768 q, cc)
     go false q e = let z : _≡_ {A = ℕ} 0 1 = cc in absurd (omega arith)
 
-symbol-rule : (s r : ℕ) → rul r ≡ symbol s → (32768 ≤ s) × (r ≡ s - 32768)
+pub symbol-rule : (s r : ℕ) → rul r ≡ symbol s → (32768 ≤ s) × (r ≡ s - 32768)
 symbol-rule s r e = go (ltb s 32768) refl e
   where
     go : (b : Bool) → ltb s 32768 ≡ b → rul r ≡ cond b (tok s) (rul (s - 32768)) → (32768 ≤ s) × (r ≡ s - 32768)

@@ -11,4 +11,5 @@ pub mod Productive
 pub mod Cost
 pub mod CostRounds
 pub mod Paths
+pub mod Search
 pub mod Sentences

@@ -7,3 +7,4 @@ pub mod Rounds
 pub mod Fills
 pub mod Tables
 pub mod Sentences
+pub mod Search

@@ -1,0 +1,4 @@
+pub mod Lists
+pub mod Links
+pub mod Search
+pub mod Calls

@@ -1,0 +1,169 @@
+// The search below `has_path`: links of each rule's productions, then rounds over the rules until one finds nothing to do.
+use grammar::inner::start_at;
+use grammar::inner::wide;
+ghost use Rattle.paths.specs.Lists.{Is, Among, Holds, Goes};
+ghost use Rattle.paths.specs.Links.{Linked, Linkable};
+ghost use Rattle.paths.specs.Search.{Markable, Walkable, Begun, Ready, Turns, Searchable, Finds};
+
+// What a round came to: whether it found `to`, and whether it found nothing to do.
+pub struct Turn {
+    pub found: bool,
+    pub empty: bool,
+}
+
+// Links each rule's productions in rising number, as `rule_to_prods` has them: `head` leads to a
+// rule's lowest, `next` from a production to the next of its rule; 4096 where there is none.
+fn links(owners: &[u16], head: &mut [u16; 512], next: &mut [u16; 4096])
+    requires { ⌜ Linkable (now owners) (now head) (now next) ⌝ }
+    ensures { λ _. ⌜ Linked (now (owners .entry)) (now (head .exit)) (now (next .exit)) 0 ⌝ }
+{
+    let mut p = owners.len();
+    while 0 < p {
+        p -= 1;
+        let r = wide(owners[p]);
+        next[p] = head[r];
+        head[r] = p as u16;
+    }
+}
+
+// One symbol: whether it is `to`. Another rule that is not seen is to be done.
+fn symbol(s: u16, to: usize, seen: &[bool; 512], todo: &mut [bool; 512]) -> bool
+    requires { ⌜ Markable s (now seen) (now todo) ⌝ }
+    ensures { λ r. ⌜ Goes to (Is s) (now (seen .entry)) (now (todo .entry)) r (now (todo .exit)) ⌝ }
+{
+    if s < 32768 {
+        return false;
+    }
+    let r = wide(s - 32768);
+    if r == to {
+        return true;
+    }
+    if !seen[r] {
+        todo[r] = true;
+    }
+    false
+}
+
+// The symbols from a up to e.
+fn prod(
+    symbols: &[u16],
+    a: usize,
+    e: usize,
+    to: usize,
+    seen: &[bool; 512],
+    todo: &mut [bool; 512],
+) -> bool
+    requires { ⌜ Walkable (now symbols) a e (now seen) (now todo) ⌝ }
+    ensures { λ r. ⌜ Goes to (Among (now (symbols .entry)) a e) (now (seen .entry)) (now (todo .entry)) r (now (todo .exit)) ⌝ }
+{
+    let mut i = a;
+    while i < e {
+        if symbol(symbols[i], to, seen, todo) {
+            return true;
+        }
+        i += 1;
+    }
+    false
+}
+
+// The productions of rule r, by their links.
+fn rule(
+    owners: &[u16],
+    starts: &[u16],
+    symbols: &[u16],
+    head: &[u16; 512],
+    next: &[u16; 4096],
+    r: usize,
+    to: usize,
+    seen: &[bool; 512],
+    todo: &mut [bool; 512],
+) -> bool
+    requires { ⌜ Ready (now owners) (now starts) (now symbols) (now head) (now next) r (now seen) (now todo) ⌝ }
+    ensures { λ x. ⌜ Goes to (Holds (now (owners .entry)) (now (starts .entry)) (now (symbols .entry)) r) (now (seen .entry)) (now (todo .entry)) x (now (todo .exit)) ⌝ }
+{
+    let mut p = wide(head[r]);
+    while p < owners.len() {
+        let a = start_at(starts, p);
+        let e = start_at(starts, p + 1);
+        if prod(symbols, a, e, to, seen, todo) {
+            return true;
+        }
+        p = wide(next[p]);
+    }
+    false
+}
+
+// One turn of the source's loop: each rule that is to be done is done.
+fn round(
+    rules: usize,
+    owners: &[u16],
+    starts: &[u16],
+    symbols: &[u16],
+    head: &[u16; 512],
+    next: &[u16; 4096],
+    to: usize,
+    seen: &mut [bool; 512],
+    todo: &mut [bool; 512],
+) -> Turn
+    requires { ⌜ Begun rules (now owners) (now starts) (now symbols) (now head) (now next) (now seen) (now todo) ⌝ }
+    ensures { λ x. ⌜ Turns rules (now (owners .entry)) (now (starts .entry)) (now (symbols .entry)) to (now (seen .entry)) (now (todo .entry)) (x .found) (x .empty) (now (seen .exit)) (now (todo .exit)) ⌝ }
+{
+    let mut empty = true;
+    for r in 0..rules {
+        if !todo[r] {
+            continue;
+        }
+        seen[r] = true;
+        todo[r] = false;
+        empty = false;
+        if rule(owners, starts, symbols, head, next, r, to, seen, todo) {
+            return Turn {
+                found: true,
+                empty: false,
+            };
+        }
+    }
+    Turn {
+        found: false,
+        empty: empty,
+    }
+}
+
+// Rounds until one finds `to` or nothing to do.
+pub fn search(
+    rules: usize,
+    owners: &[u16],
+    starts: &[u16],
+    symbols: &[u16],
+    from: usize,
+    to: usize,
+) -> bool
+    requires { ⌜ Searchable rules (now owners) (now starts) (now symbols) from ⌝ }
+    ensures { λ r. ⌜ Finds (now (owners .entry)) (now (starts .entry)) (now (symbols .entry)) from to r ⌝ }
+{
+    let mut head = [4096; 512];
+    let mut next = [4096; 4096];
+    links(owners, &mut head, &mut next);
+    let mut seen = [false; 512];
+    let mut todo = [false; 512];
+    todo[from] = true;
+    loop {
+        let turn = round(
+            rules,
+            owners,
+            starts,
+            symbols,
+            &head,
+            &next,
+            to,
+            &mut seen,
+            &mut todo,
+        );
+        if turn.found {
+            return true;
+        }
+        if turn.empty {
+            return false;
+        }
+    }
+}

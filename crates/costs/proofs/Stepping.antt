@@ -1,17 +1,17 @@
 -- One production's step of PRODUCTIVE and of COST: what it asks of what it calls, and what it leaves.
-use mathlib.Core.Bool.{Bool, true, false, not, cond, _&&_, _||_, and-true, and-false, or-false, false≢true}
+use mathlib.Core.Bool.{Bool, true, false, not, cond, _&&_, _||_, and-true, and-false, or-false, false≢true, true≢false}
 use mathlib.Core.List.{List}
 use mathlib.Core.Logic.{_⊎_, inl, inr}
 use mathlib.Core.Path.{_≡_, refl, sym, ap, _∙_, subst}
 use Prim.Native.Nat.{ℕ, _+_, _-_, _*_, _≤_, _<_, min}
-use native.Mathlib.Decide.{ℕ-discrete}
+use native.Mathlib.Decide.{ℕ-discrete, decLt}
 use native.Mathlib.Omega.{arith}
 use lib.Dec.{eqb, leb, ltb}
 use lib.ListN.{length, getD, set, length-set}
 use lib.Seq.{getD-set-same, getD-set-other}
-use borrow.Author.Tests.{leb-true, leb-false, ltb-true, ltb-false, le-leb, lt-leb, eq-eqb, ne-eqb, not-true, not-false}
+use borrow.Author.Tests.{leb-true, ltb-true, le-leb, lt-ltb, eq-eqb, ne-eqb, not-true, not-false}
 use Rattle.theory.specs.Visits.{allMarked, productiveVisit, formCost, lower, costVisit}
-use Rattle.theory.proofs.Bools.{or-split, or-none}
+use Rattle.theory.proofs.Bools.{and-split, and-join}
 use Rattle.grammar.specs.Flat.{Flat, flat, at, ProdAt, form, denoted, price}
 use Rattle.grammar.specs.Well.{WellFormed, SymbolFits}
 use Rattle.grammar.proofs.Forms.{prod-in, Placed, placed}
@@ -82,22 +82,22 @@ module _ (rules : ℕ) (owners starts symbols costs : List ℕ) (p : ℕ) (row :
         }
 
 -- what a sum makes of an entry n, where s is the sum cut at 65536
-cut-stays : (n f s : ℕ) → s ≡ min f 65536 → (ltb 65535 s || leb n s) ≡ true → lower n f ≡ n
+cut-lowers : (n f s : ℕ) → s ≡ min f 65536 → (leb s 65535 && ltb s n) ≡ true → (lower n f ≡ s) × (s < n)
+cut-lowers n f s e k =
+    let z = and-split (leb s 65535) _ k in
+    let lo = leb-true s 65535 (z .0) in
+    let hi = ltb-true s n (z .1) in
+    (rw (le-leb f 65535 (omega arith)) (omega arith), hi)
+
+cut-stays : (n f s : ℕ) → s ≡ min f 65536 → (leb s 65535 && ltb s n) ≡ false → lower n f ≡ n
 cut-stays n f s e k = go (leb f 65535) refl
   where
     go : (b : Bool) → leb f 65535 ≡ b → cond b (min n f) n ≡ n
-    go true q = elim (or-split (ltb 65535 s) _ k) [
-      | inl u ↦ absurd (omega (arith, ltb-true 65535 s u, leb-true f 65535 q))
-      | inr u ↦ omega (arith, leb-true n s u, leb-true f 65535 q)
+    go true q = elim (decLt s n) [
+      | yes l ↦ absurd (true≢false (sym (and-join (le-leb s 65535 (omega (arith, leb-true f 65535 q))) (lt-ltb s n l)) ∙ k))
+      | no l ↦ omega (arith, leb-true f 65535 q)
     ]
     go false q = refl
-
-cut-lowers : (n f s : ℕ) → s ≡ min f 65536 → (ltb 65535 s || leb n s) ≡ false → (lower n f ≡ s) × (s < n)
-cut-lowers n f s e k =
-    let z = or-none (ltb 65535 s) _ k in
-    let lo = ltb-false 65535 s (z .0) in
-    let hi = leb-false n s (z .1) in
-    (rw (le-leb f 65535 (omega arith)) (omega arith), hi)
 
 -- COST
 module _ (rules : ℕ) (owners starts symbols costs : List ℕ) (p : ℕ) (cost : List ℕ) (ok : CostReady (flat rules owners starts symbols costs) p cost) where
@@ -133,7 +133,7 @@ module _ (rules : ℕ) (owners starts symbols costs : List ℕ) (p : ℕ) (cost 
       visited r n q (inl d) = rw (← (h .owner), ne-eqb r o d)
       visited r n q (inr d) = rw (← (h .owner), d, eq-eqb o o refl, held) q
 
-      pub cost-stays : (ltb 65535 s || leb old s) ≡ true → Stepped (CostBecame (flat rules owners starts symbols costs) p cost) cost false cost
+      pub cost-stays : (leb s 65535 && ltb s old) ≡ false → Stepped (CostBecame (flat rules owners starts symbols costs) p cost) cost false cost
       cost-stays k = record {
         became = record { long = refl; entries = λ r. sym (each r) };
         told = λ t. absurd (false≢true t);
@@ -146,7 +146,7 @@ module _ (rules : ℕ) (owners starts symbols costs : List ℕ) (p : ℕ) (cost 
             | no d ↦ visited r old (cut-stays old f s cut k) (inl d) ∙ rw (ne-eqb r o d)
           ]
 
-      pub cost-lowers : (ltb 65535 s || leb old s) ≡ false → Stepped (CostBecame (flat rules owners starts symbols costs) p cost) cost true (set cost o s)
+      pub cost-lowers : (leb s 65535 && ltb s old) ≡ true → Stepped (CostBecame (flat rules owners starts symbols costs) p cost) cost true (set cost o s)
       unfolding costsOf
       cost-lowers k = record {
         became = record { long = length-set cost o s; entries = each };

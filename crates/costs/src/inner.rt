@@ -194,11 +194,11 @@ pub fn cost_step(
     let owner = q.owner;
     let s = sum(symbols, costs, q.from, q.to, cost);
     let old = entry_at(cost, owner);
-    if (65535 < s) | (old <= s) {
-        return false;
+    if (s <= 65535) & (s < old) {
+        cost[owner] = s;
+        return true;
     }
-    cost[owner] = s;
-    true
+    false
 }
 
 // One round of COST, each production once; whether something changed.

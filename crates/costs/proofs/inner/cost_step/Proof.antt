@@ -12,23 +12,23 @@ sum-requires c κs = search (needs, pricing)
 entry-at-requires : tie.Need-entry-at-requires
 entry-at-requires c κs = search (needs, owner-in)
 
-same-length : tie.Need-same-length
-same-length c = search needs
-
-returns : tie.Need-returns
-returns c = search (needs, cost-stays)
-
 mul-cost : tie.Need-mul-cost
 mul-cost c = search (needs, owner-in)
 
 slice-write-cost : tie.Need-slice-write-cost
 slice-write-cost c = search (needs, owner-in)
 
+same-length : tie.Need-same-length
+same-length c = search needs
+
+returns : tie.Need-returns
+returns c = search (needs, cost-lowers)
+
 same-length-2 : tie.Need-same-length-2
 same-length-2 c = search needs
 
 returns-2 : tie.Need-returns-2
-returns-2 c = search (needs, cost-lowers)
+returns-2 c = search (needs, cost-stays)
 
 pub cost-step-spec : {M : Type 1} → statement M
 cost-step-spec =
@@ -37,9 +37,9 @@ cost-step-spec =
     prod-at-requires
     sum-requires
     entry-at-requires
-    same-length
-    returns
     mul-cost
     slice-write-cost
+    same-length
+    returns
     same-length-2
     returns-2)

@@ -1,11 +1,8 @@
 use Prim.Native.Nat.{_≤_, _-_}
 use lib.ListN.{length}
 use borrow.Author.Needs.{needs}
-use native.Mathlib.Omega.{arith}
 use Rattle.marks.proofs.all_are.Statement.{statement}
 use Rattle.marks.proofs.all_are.Tie as tie
-use Rattle.marks.proofs.all_are.Reads as reads
-use Rattle.marks.proofs.all_are.Lts as lts
 
 abbrev Inv-loop : tie.InvT-loop
 Inv-loop words word all₀ i₀ all i = i ≤ length words
@@ -13,31 +10,24 @@ Inv-loop words word all₀ i₀ all i = i ≤ length words
 abbrev μ-loop : tie.MeasureT-loop
 μ-loop words word all₀ i₀ all i = length words - i
 
--- src/main.rt:112:5
 loop-holds : tie.Need-loop-holds Inv-loop μ-loop
 loop-holds c = search needs
 
--- src/main.rt:113:22
 mul-all : tie.Need-mul-all Inv-loop μ-loop
 mul-all c = search needs
 
--- src/main.rt:113:22
 shared-slice-read-all : tie.Need-shared-slice-read-all Inv-loop μ-loop
 shared-slice-read-all c = search needs
 
--- src/main.rt:114:9
 add-i : tie.Need-add-i Inv-loop μ-loop
 add-i c = search needs
 
--- src/main.rt:112:5
 loop-less : tie.Need-loop-less Inv-loop μ-loop
 loop-less c = search needs
 
--- src/main.rt:112:5
 loop-again : tie.Need-loop-again Inv-loop μ-loop
 loop-again c = search needs
 
--- src/main.rt:109:1
 returns : tie.Need-returns Inv-loop μ-loop
 returns c = search needs
 

@@ -2,11 +2,8 @@ use mathlib.Core.Path.{_≡_}
 use Prim.Native.Nat.{_≤_, _-_}
 use lib.ListN.{length}
 use borrow.Author.Needs.{needs}
-use native.Mathlib.Omega.{arith}
 use Rattle.marks.proofs.chain_owners.Statement.{statement}
 use Rattle.marks.proofs.chain_owners.Tie as tie
-use Rattle.marks.proofs.chain_owners.Reads as reads
-use Rattle.marks.proofs.chain_owners.Lts as lts
 
 abbrev Inv-loop : tie.InvT-loop
 Inv-loop rules owners₀ k₀ owners k = (length owners ≡ 513) × (k ≤ rules)
@@ -14,39 +11,30 @@ Inv-loop rules owners₀ k₀ owners k = (length owners ≡ 513) × (k ≤ rules
 abbrev μ-loop : tie.MeasureT-loop
 μ-loop rules owners₀ k₀ owners k = rules - k
 
--- src/main.rt:311:23
 sub-owners : tie.Need-sub-owners Inv-loop μ-loop
 sub-owners c = search needs
 
--- src/main.rt:313:5
 loop-holds : tie.Need-loop-holds Inv-loop μ-loop
 loop-holds c = search needs
 
--- src/main.rt:314:16
 cast-owners : tie.Need-cast-owners Inv-loop μ-loop
 cast-owners c = search needs
 
--- src/main.rt:314:9
 mul-owners : tie.Need-mul-owners Inv-loop μ-loop
 mul-owners c = search needs
 
--- src/main.rt:314:9
 array-write-owners : tie.Need-array-write-owners Inv-loop μ-loop
 array-write-owners c = search needs
 
--- src/main.rt:315:9
 add-k : tie.Need-add-k Inv-loop μ-loop
 add-k c = search needs
 
--- src/main.rt:313:5
 loop-less : tie.Need-loop-less Inv-loop μ-loop
 loop-less c = search needs
 
--- src/main.rt:313:5
 loop-again : tie.Need-loop-again Inv-loop μ-loop
 loop-again c = search needs
 
--- src/main.rt:307:1
 returns : tie.Need-returns Inv-loop μ-loop
 returns c = search needs
 

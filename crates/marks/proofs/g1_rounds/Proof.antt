@@ -2,12 +2,8 @@ use mathlib.Core.Path.{_≡_}
 use Prim.Native.Nat.{_≤_, _-_}
 use lib.ListN.{length}
 use borrow.Author.Needs.{needs}
-use native.Mathlib.Omega.{arith}
 use Rattle.marks.proofs.g1_rounds.Statement.{statement}
 use Rattle.marks.proofs.g1_rounds.Tie as tie
-use Rattle.marks.proofs.g1_rounds.Reads as reads
-use Rattle.marks.proofs.g1_rounds.Lts as lts
-use Rattle.marks.proofs.g1_round.Reads as g1-round-reads
 
 abbrev Inv-loop : tie.InvT-loop
 Inv-loop first₀ empty₀ k₀ first empty k = (length first ≡ length first₀) × ((length empty ≡ length empty₀) × (k ≤ 20))
@@ -15,47 +11,36 @@ Inv-loop first₀ empty₀ k₀ first empty k = (length first ≡ length first�
 abbrev μ-loop : tie.MeasureT-loop
 μ-loop first₀ empty₀ k₀ first empty k = 20 - k
 
--- src/main.rt:156:5
 loop-holds : tie.Need-loop-holds Inv-loop μ-loop
 loop-holds c = search needs
 
--- src/main.rt:157:13
 g1-round-requires : tie.Need-g1-round-requires Inv-loop μ-loop
 g1-round-requires c κs = search needs
 
--- src/main.rt:159:13
 same-length : tie.Need-same-length Inv-loop μ-loop
 same-length c = search needs
 
--- src/main.rt:159:13
 same-length-2 : tie.Need-same-length-2 Inv-loop μ-loop
 same-length-2 c = search needs
 
--- src/main.rt:159:13
 returns : tie.Need-returns Inv-loop μ-loop
 returns c = search needs
 
--- src/main.rt:161:9
 add-k : tie.Need-add-k Inv-loop μ-loop
 add-k c = search needs
 
--- src/main.rt:156:5
 loop-less : tie.Need-loop-less Inv-loop μ-loop
 loop-less c = search needs
 
--- src/main.rt:156:5
 loop-again : tie.Need-loop-again Inv-loop μ-loop
 loop-again c = search needs
 
--- src/main.rt:154:1
 same-length-3 : tie.Need-same-length-3 Inv-loop μ-loop
 same-length-3 c = search needs
 
--- src/main.rt:154:1
 same-length-4 : tie.Need-same-length-4 Inv-loop μ-loop
 same-length-4 c = search needs
 
--- src/main.rt:154:1
 returns-2 : tie.Need-returns-2 Inv-loop μ-loop
 returns-2 c = search needs
 

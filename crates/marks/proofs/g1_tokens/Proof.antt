@@ -1,13 +1,7 @@
 use Prim.Native.Nat.{_≤_, _-_}
 use borrow.Author.Needs.{needs}
-use native.Mathlib.Omega.{arith}
 use Rattle.marks.proofs.g1_tokens.Statement.{statement}
 use Rattle.marks.proofs.g1_tokens.Tie as tie
-use Rattle.marks.proofs.g1_tokens.Reads as reads
-use Rattle.marks.proofs.g1_tokens.Lts as lts
-use Rattle.marks.proofs.g1_token.Reads as g1-token-reads
-use Rattle.marks.proofs.print.Reads as print-reads
-use Rattle.marks.proofs.say.Reads as say-reads
 
 abbrev Inv-loop : tie.InvT-loop
 Inv-loop first rule t₀ t6 t = t ≤ 4
@@ -15,55 +9,42 @@ Inv-loop first rule t₀ t6 t = t ≤ 4
 abbrev μ-loop : tie.MeasureT-loop
 μ-loop first rule t₀ t6 t = 4 - t
 
--- src/main.rt:176:9
 slice-aggregate-say : tie.Need-slice-aggregate-say Inv-loop μ-loop
 slice-aggregate-say c = search needs
 
--- src/main.rt:176:5
 say-requires : tie.Need-say-requires Inv-loop μ-loop
 say-requires c κs = search needs
 
--- src/main.rt:177:5
 print-requires : tie.Need-print-requires Inv-loop μ-loop
 print-requires c κs = search needs
 
--- src/main.rt:178:9
 slice-aggregate-say-2 : tie.Need-slice-aggregate-say-2 Inv-loop μ-loop
 slice-aggregate-say-2 c = search needs
 
--- src/main.rt:178:5
 say-requires-2 : tie.Need-say-requires-2 Inv-loop μ-loop
 say-requires-2 c κs = search needs
 
--- src/main.rt:180:5
 loop-holds : tie.Need-loop-holds Inv-loop μ-loop
 loop-holds c = search needs
 
--- src/main.rt:181:9
 g1-token-requires : tie.Need-g1-token-requires Inv-loop μ-loop
 g1-token-requires c κs = search needs
 
--- src/main.rt:182:9
 add-t : tie.Need-add-t Inv-loop μ-loop
 add-t c = search needs
 
--- src/main.rt:180:5
 loop-less : tie.Need-loop-less Inv-loop μ-loop
 loop-less c = search needs
 
--- src/main.rt:180:5
 loop-again : tie.Need-loop-again Inv-loop μ-loop
 loop-again c = search needs
 
--- src/main.rt:184:9
 slice-aggregate-say-3 : tie.Need-slice-aggregate-say-3 Inv-loop μ-loop
 slice-aggregate-say-3 c = search needs
 
--- src/main.rt:184:5
 say-requires-3 : tie.Need-say-requires-3 Inv-loop μ-loop
 say-requires-3 c κs = search needs
 
--- src/main.rt:175:1
 returns : tie.Need-returns Inv-loop μ-loop
 returns c = search needs
 

@@ -1,11 +1,8 @@
 use Prim.Native.Nat.{_≤_, _-_}
 use lib.ListN.{length}
 use borrow.Author.Needs.{needs}
-use native.Mathlib.Omega.{arith}
 use Rattle.marks.proofs.same_words.Statement.{statement}
 use Rattle.marks.proofs.same_words.Tie as tie
-use Rattle.marks.proofs.same_words.Reads as reads
-use Rattle.marks.proofs.same_words.Lts as lts
 
 abbrev Inv-loop : tie.InvT-loop
 Inv-loop a b all₀ i₀ all i = i ≤ length a
@@ -13,43 +10,33 @@ Inv-loop a b all₀ i₀ all i = i ≤ length a
 abbrev μ-loop : tie.MeasureT-loop
 μ-loop a b all₀ i₀ all i = length a - i
 
--- src/main.rt:122:9
 returns : tie.Need-returns Inv-loop μ-loop
 returns c = search needs
 
--- src/main.rt:126:5
 loop-holds : tie.Need-loop-holds Inv-loop μ-loop
 loop-holds c = search needs
 
--- src/main.rt:127:22
 mul-all : tie.Need-mul-all Inv-loop μ-loop
 mul-all c = search needs
 
--- src/main.rt:127:22
 shared-slice-read-all : tie.Need-shared-slice-read-all Inv-loop μ-loop
 shared-slice-read-all c = search needs
 
--- src/main.rt:127:30
 mul-all-2 : tie.Need-mul-all-2 Inv-loop μ-loop
 mul-all-2 c = search needs
 
--- src/main.rt:127:30
 shared-slice-read-all-2 : tie.Need-shared-slice-read-all-2 Inv-loop μ-loop
 shared-slice-read-all-2 c = search needs
 
--- src/main.rt:128:9
 add-i : tie.Need-add-i Inv-loop μ-loop
 add-i c = search needs
 
--- src/main.rt:126:5
 loop-less : tie.Need-loop-less Inv-loop μ-loop
 loop-less c = search needs
 
--- src/main.rt:126:5
 loop-again : tie.Need-loop-again Inv-loop μ-loop
 loop-again c = search needs
 
--- src/main.rt:120:1
 returns-2 : tie.Need-returns-2 Inv-loop μ-loop
 returns-2 c = search needs
 

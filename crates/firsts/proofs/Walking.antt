@@ -99,7 +99,7 @@ module _ (R T : ℕ) (symbols : List ℕ) (a e o : ℕ) (l : Lent) (ok : Walkabl
         row-below : (r : ℕ) → r < R → r * words T + words T ≤ length now
         row-below r lr = omega (arith, long, mul-le-mul-right {m = suc r} {n = R} (words T) lr)
 
-        pub rows-place : (wd x : ℕ) → wd ≡ words T → x ≡ s - 32768 → Rows T wd now x o
+        pub rows-place : (wd x : ℕ) → wd ≡ words T → x ≡ s - 32768 → Rows T wd now x now o
         rows-place wd x ew ex = rw (ew, ex) (record { fits = wide; from = row-below (s - 32768) rule-below; to = row-below o (ok .owner) })
 
         pub empty-place : (rd x : ℕ) → rd ≡ words R → x ≡ s - 32768 → place rd 0 x < length (l .empty)

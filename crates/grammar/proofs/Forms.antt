@@ -17,14 +17,14 @@ pub form-done : (symbols : List ℕ) (i e : ℕ) → i ≤ e → e ≤ i → for
 unfolding form
 form-done symbols i e p q = rw (le-antisymm p q, slice-empty e symbols)
 
-form-more : (symbols : List ℕ) (i e : ℕ) → i < e → e ≤ length symbols → form symbols i e ≡ symbol (at symbols i) ∷ form symbols (i + 1) e
+pub form-more : (symbols : List ℕ) (i e : ℕ) → i < e → e ≤ length symbols → form symbols i e ≡ symbol (at symbols i) ∷ form symbols (i + 1) e
 unfolding form
 form-more symbols i e l k = rw (add-one, slice-cons i e symbols 0 l k)
 
-symbol-token : (s : ℕ) → s < 32768 → symbol s ≡ tok s
+pub symbol-token : (s : ℕ) → s < 32768 → symbol s ≡ tok s
 symbol-token s l = rw (lt-ltb s 32768 l)
 
-symbol-rule : (s : ℕ) → 32768 ≤ s → symbol s ≡ rul (s - 32768)
+pub symbol-rule : (s : ℕ) → 32768 ≤ s → symbol s ≡ rul (s - 32768)
 symbol-rule s l = rw (le-ltb s 32768 l)
 
 -- the next symbol s is a token, or a rule

@@ -7,7 +7,7 @@ use native.Mathlib.Omega.{arith}
 use native.Mathlib.Nat.{mul-le-mul, lt-of-le-of-lt}
 use lib.Dec.{eqb, leb}
 use lib.ListN.{length}
-use borrow.Author.Tests.{le-leb, lt-leb, eqb-true, not-false}
+use borrow.Author.Tests.{le-leb, lt-leb, eqb-true, eq-eqb, not-false}
 use Rattle.grammar.specs.Flat.{Flat}
 use Rattle.grammar.specs.Outcome.{answers, refused}
 use Rattle.grammar.specs.Production.{checkedIs, checkOf, numberOf}
@@ -29,6 +29,15 @@ table-long R T table e = eqb-true _ _ (not-false _ e)
 pub row-long : (R : ℕ) (row : List ℕ) → rowWrong R row ≡ false → length row ≡ words R
 unfolding rowWrong
 row-long R row e = eqb-true _ _ (not-false _ e)
+
+-- a table of its length is not refused
+pub table-right : (R T : ℕ) (table : List ℕ) → length table ≡ R * words T → tableWrong R T table ≡ false
+unfolding tableWrong
+table-right R T table e = rw (eq-eqb (length table) (R * words T) e)
+
+pub row-right : (R : ℕ) (row : List ℕ) → length row ≡ words R → rowWrong R row ≡ false
+unfolding rowWrong
+row-right R row e = rw (eq-eqb (length row) (words R) e)
 
 pub asked-is : (b : Bool) (r : Asked) → r ≡ askedOf b → askedIs r ≡ answers b
 asked-is true r e = rw e

@@ -22,8 +22,8 @@ use Rattle.grammar.proofs.Denoted.{proper}
 use Rattle.grammar.proofs.Lowest.{after-well, after-refused}
 use Rattle.grammar.proofs.Well.{well}
 use Rattle.rows.specs.Marks.{mark, Small}
-use Rattle.rows.specs.Tables.{Sized, view}
-use Rattle.rows.proofs.Tables.{cleared-mark, cleared-sized, cleared-view}
+use Rattle.rows.specs.Tables.{view}
+use Rattle.rows.proofs.Tables.{cleared-mark, cleared-sized, cleared-row, cleared-view}
 use Rattle.tables.specs.Answers.{visitedIs, filledIs, visitedOf}
 use Rattle.tables.specs.Call.{Call}
 use Rattle.tables.specs.Sizes.{words, tableWrong, rowWrong}
@@ -48,7 +48,7 @@ zeros-marks g = marks-same _ _
 pub zeros-held : (g : Flat) → Held (g .rules) (length (g .costs)) (zeros g)
 zeros-held g = record {
   first = cleared-sized (g .rules) (words (length (g .costs)));
-  empty = subst (λ z. Sized 1 (words (g .rules)) (replicate z 0)) (sym (one-row (g .rules))) (cleared-sized 1 (words (g .rules)));
+  empty = cleared-row (words (g .rules));
 }
 
 -- both tables cleared

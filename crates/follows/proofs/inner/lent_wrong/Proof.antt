@@ -12,7 +12,7 @@ row-wrong-requires : tie.Need-row-wrong-requires
 row-wrong-requires c κs = search needs
 
 returns : tie.Need-returns
-returns c = search needs
+returns c = rw (c .before .before .table-wrong .ensures, c .before .table-wrong2 .ensures, c .row-wrong .ensures)
 
 pub lent-wrong-spec : {M : Type 1} → statement M
 lent-wrong-spec =

@@ -4,3 +4,4 @@ pub mod Walking
 pub mod Stepping
 pub mod Moving
 pub mod Rounding
+pub mod Calling

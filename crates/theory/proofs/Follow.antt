@@ -178,14 +178,14 @@ module _ (g : Grammar) (ok : Proper g) (mode : Mode) (m : Marks) (low : (r t : �
     same = λ p f e. sym e;
   }
 
+pub follow-cleared-inside : (g : Grammar) → Proper g → Inside (g .rules) (g .tokens) (followCleared g)
+follow-cleared-inside g ok r t e =
+    let s = and-split (eqb r 0) _ e in
+    (omega (arith, ok .some-rule, eqb-true r 0 (s .0)), omega (arith, ok .some-token, eqb-true t (eof g) (s .1)))
+
 module _ (g : Grammar) (ok : Proper g) (mode : Mode) (m : Marks) (h : FirstExact g m) where
   pub follow-marked : Marked (followVisit g mode m) (Inside (g .rules) (g .tokens)) (g .prods) (g .rules) (g .tokens)
   follow-marked = follow-grows g ok mode m (λ r t e. omega (arith, first-below ok (h .first r t .1 e)))
-
-  pub follow-cleared-inside : Inside (g .rules) (g .tokens) (followCleared g)
-  follow-cleared-inside r t e =
-      let s = and-split (eqb r 0) _ e in
-      (omega (arith, ok .some-rule, eqb-true r 0 (s .0)), omega (arith, ok .some-token, eqb-true t (eof g) (s .1)))
 
   cleared-fin : followCleared g 0 (eof g) ≡ true
   cleared-fin = and-join (eqb-same 0) (eqb-same (eof g))
@@ -202,5 +202,5 @@ module _ (g : Grammar) (ok : Proper g) (mode : Mode) (m : Marks) (h : FirstExact
     always = run-true;
     exact = λ v k r. follow-rest-exact g mode m h _ (run-fin v k) r (run-true v k);
     agree = follow-one g mode;
-    settles = λ vs k len. rounds-done (climb-ascent (climb follow-marked)) vs k len (followCleared g) follow-cleared-inside;
+    settles = λ vs k len. rounds-done (climb-ascent (climb follow-marked)) vs k len (followCleared g) (follow-cleared-inside g ok);
   }

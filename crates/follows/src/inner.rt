@@ -136,18 +136,17 @@ fn walk(
     requires { ⌜ Walkable rules tokens (now symbols) a e owner (firsts (now first) (now empty)) (now ahead) (now follow) ⌝ }
     ensures { λ x. ⌜ Grown rules tokens (words tokens) (now (follow .entry)) (now (follow .exit)) (followBack (kind corrected) (marksOf rules tokens (firsts (now (first .entry)) (now (empty .entry)))) owner (form (now (symbols .entry)) a e) (tableOf rules tokens (now (follow .entry)))) x ⌝ }
 {
+    let n = e - a;
     let mut new = false;
     let mut null = true;
-    let mut i = e;
-    while a < i {
-        i -= 1;
-        let s = symbols[i];
+    let mut i: usize = 0;
+    while i < n {
         let x = one(
             rules,
             tokens,
             owner,
             corrected,
-            s,
+            symbols[a + turn_at(true, n, i)],
             null,
             first,
             empty,
@@ -156,6 +155,7 @@ fn walk(
         );
         new = new | x.new;
         null = x.null;
+        i += 1;
     }
     new
 }

@@ -54,7 +54,8 @@ pub fn visit(
     let Checked::Well = c else {
         return Visited::Refused(number(c));
     };
-    if inner::lent_wrong(wide(rules), costs.len(), follow, first, empty) {
+    let n = wide(rules);
+    if inner::lent_wrong(n, costs.len(), follow, first, empty) {
         return Visited::Refused(7);
     }
     if (mode != 1) & (mode != 2) {

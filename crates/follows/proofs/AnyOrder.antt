@@ -3,6 +3,7 @@ use mathlib.Core.Bool.{Bool, true, false, _||_}
 use mathlib.Core.List.{List}
 use mathlib.Core.Path.{_≡_, refl, sym, _∙_, ap, ap₂, subst}
 use Prim.Native.Nat.{ℕ, _*_, _≤_, _<_}
+use native.Mathlib.Omega.{arith}
 use lib.Dec.{leb}
 use lib.ListN.{length}
 use borrow.Author.Tests.{leb-false, lt-leb}
@@ -12,7 +13,7 @@ use Rattle.theory.specs.Tables.{FollowTrue}
 use Rattle.theory.specs.Visits.{Table, Marks, followVisit, firstCleared, followCleared}
 use Rattle.theory.proofs.Follow.{follow-one, follow-corrected}
 use Rattle.grammar.specs.Flat.{Flat, denoted}
-use Rattle.grammar.specs.Outcome.{answers}
+use Rattle.grammar.specs.Outcome.{Outcome, answers, refused}
 use Rattle.grammar.specs.Well.{WellFormed}
 use Rattle.grammar.proofs.Denoted.{proper}
 use Rattle.rows.specs.Marks.{mark}
@@ -33,10 +34,15 @@ use Rattle.firsts.proofs.Calling.{one-row}
 use Rattle.firsts.proofs.Determined.{defined-one as firsts-one}
 use Rattle.follows.specs.Lent.{lent, tableOf, Spared}
 use Rattle.follows.specs.Step.{Steps}
-use Rattle.follows.specs.Calls.{modeOf, unlessMode, lentWrong, fillDue, visitDue, begun, Visits, ask, followVisits, Defined, Fill}
+use Rattle.follows.specs.Calls.{modeOf, after, lentWrong, lentDue, fillDue, visitDue, begun, Visits, ask, followVisits, Defined, Fill}
 use Rattle.follows.proofs.Moving.{spared-same, spared-then, same-steps, steps-view, steps-spared}
 use Rattle.follows.proofs.Calling.{begun-held, begun-table, begun-spare, any-order}
 use Rattle.follows.proofs.Determined.{mode-one, defined-one}
+
+-- a call that goes on goes on to what comes after
+after-not : {A B : Type 0} (d : Outcome A) (x : Outcome B) {b : B} → after d x ≡ answers b → x ≡ answers b
+after-not (answers a) x e = e
+after-not (refused n) x e = let z : _≡_ {A = ℕ} 0 1 = cc in absurd (omega arith)
 
 -- one mode, and finished FIRST and EMPTY
 module _ (g : Flat) (w : WellFormed g) (n : ℕ) (mode : Mode) (means : modeOf n ≡ answers mode) (read : Firsts) (d : FirstDefined g read) where
@@ -50,8 +56,7 @@ module _ (g : Flat) (w : WellFormed g) (n : ℕ) (mode : Mode) (means : modeOf n
 
   due-prod : (p : ℕ) (follow : List ℕ) → visitDue g n p (lent follow read) ≡ answers tt → p < length (g .owners)
   due-prod p follow e =
-      let a = unless-not (lentWrong (g .rules) (length (g .costs)) (lent follow read)) 7 _ tt (sym (goes g w _) ∙ e) in
-      leb-false (length (g .owners)) p (unless-not (leb (length (g .owners)) p) 11 (answers tt) tt (rw means at (a .1)) .0)
+      leb-false (length (g .owners)) p (unless-not (leb (length (g .owners)) p) 11 (answers tt) tt (after-not (lentDue (g .rules) (length (g .costs)) n (lent follow read)) _ (sym (goes g w _) ∙ e)) .0)
 
   -- the mode that a visit was made in is the one asked for
   made : (p : ℕ) (a b : List ℕ) (x : _) (v : Visits g n p read a x b) → Steps g mode p read a (v .changed) b

@@ -14,7 +14,7 @@ use Rattle.theory.specs.Visits.{Table, followVisit, followCleared}
 use Rattle.theory.proofs.Bools.{or-none}
 use Rattle.theory.proofs.Follow.{follow-cleared-inside, follow-any-order}
 use Rattle.grammar.specs.Flat.{Flat, denoted}
-use Rattle.grammar.specs.Outcome.{Outcome, answers, refused}
+use Rattle.grammar.specs.Outcome.{Outcome, answers, refused, unless}
 use Rattle.grammar.specs.Production.{checkedIs, checkOf, numberOf}
 use Rattle.grammar.specs.Well.{WellFormed}
 use Rattle.grammar.specs.declared.Checked.{Checked}
@@ -39,25 +39,50 @@ use Rattle.firsts.specs.Step.{Begun as FirstBegun, Settled as FirstSettled}
 use Rattle.firsts.proofs.Calling.{one-row, zeros-cleared, zeros-begun, settled-defined}
 use Rattle.follows.specs.Lent.{Lent, lent, tableOf}
 use Rattle.follows.specs.Step.{kind, Ready, Steps, Begun, Settled}
-use Rattle.follows.specs.Calls.{modeOf, unlessMode, lentWrong, clearDue, fillDue, visitDue, begun, Clears, Visits, Defined, Fills}
+use Rattle.follows.specs.Calls.{modeOf, after, lentWrong, lentDue, numberIn, clearDue, fillDue, visitDue, begun, Clears, Visits, Defined, Fills}
 
--- the number of a mode
-pub mode-not : (n : ℕ) → (not (eqb n 1) && not (eqb n 2)) ≡ true → modeOf n ≡ refused 8
-mode-not n e = go (eqb n 1) (eqb n 2) e
-  where
-    go : (a b : Bool) → (not a && not b) ≡ true → cond a (answers crate) (cond b (answers corrected) (refused 8)) ≡ refused 8
-    go true b e = absurd (false≢true e)
-    go false true e = absurd (false≢true e)
-    go false false e = refl
+-- `wrong`
+module _ (R T mode : ℕ) (l : Lent) (x y z : Bool) (ex : x ≡ tableWrong R T (l .follow)) (ey : y ≡ tableWrong R T (l .read .first)) (ez : z ≡ rowWrong R (l .read .empty)) where
+  tests : (x || (y || z)) ≡ lentWrong R T l
+  tests = rw (ex, ey, ez)
 
-pub mode-is : (n : ℕ) → (not (eqb n 1) && not (eqb n 2)) ≡ false → modeOf n ≡ answers (kind (eqb n 2))
+  pub wrong-7 : (x || (y || z)) ≡ true → 7 ≡ numberIn (lentDue R T mode l)
+  wrong-7 k = rw (← tests, k)
+
+  module _ (k : (x || (y || z)) ≡ false) where
+    pub wrong-8 : (not (eqb mode 1) && not (eqb mode 2)) ≡ true → 8 ≡ numberIn (lentDue R T mode l)
+    wrong-8 e = rw (← tests, k) (go (eqb mode 1) (eqb mode 2) e)
+      where
+        go : (a b : Bool) → (not a && not b) ≡ true → 8 ≡ numberIn (after (cond a (answers crate) (cond b (answers corrected) (refused 8))) (answers tt))
+        go true b e = absurd (false≢true e)
+        go false true e = absurd (false≢true e)
+        go false false e = refl
+
+    pub wrong-none : (not (eqb mode 1) && not (eqb mode 2)) ≡ false → 0 ≡ numberIn (lentDue R T mode l)
+    wrong-none e = rw (← tests, k) (go (eqb mode 1) (eqb mode 2) e)
+      where
+        go : (a b : Bool) → (not a && not b) ≡ false → 0 ≡ numberIn (after (cond a (answers crate) (cond b (answers corrected) (refused 8))) (answers tt))
+        go true b e = refl
+        go false true e = refl
+        go false false e = absurd (true≢false e)
+
+-- what its answer tells
+due-number : (d : Outcome (Unit {0})) (x : ℕ) → x ≡ numberIn d → 0 < x → d ≡ refused x
+due-number (answers u) x e h = absurd (omega arith)
+due-number (refused n) x e h = ap refused (sym e)
+
+mode-is : (n : ℕ) → numberIn (after (modeOf n) (answers tt)) ≡ 0 → modeOf n ≡ answers (kind (eqb n 2))
 mode-is n e = go (eqb n 1) (eqb n 2) refl refl e
   where
-    go : (a b : Bool) → eqb n 1 ≡ a → eqb n 2 ≡ b → (not a && not b) ≡ false → cond a (answers crate) (cond b (answers corrected) (refused 8)) ≡ answers (kind b)
+    go : (a b : Bool) → eqb n 1 ≡ a → eqb n 2 ≡ b → numberIn (after (cond a (answers crate) (cond b (answers corrected) (refused 8))) (answers tt)) ≡ 0 → cond a (answers crate) (cond b (answers corrected) (refused 8)) ≡ answers (kind b)
     go true true p q e = absurd (omega (arith, eqb-true n 1 p, eqb-true n 2 q))
     go true false p q e = refl
     go false true p q e = refl
-    go false false p q e = absurd (true≢false e)
+    go false false p q e = absurd (omega arith)
+
+none-due : (b : Bool) (n : ℕ) → numberIn (unless b 7 (after (modeOf n) (answers tt))) ≡ 0 → (b ≡ false) × (modeOf n ≡ answers (kind (eqb n 2)))
+none-due true n e = absurd (omega arith)
+none-due false n e = (refl, mode-is n e)
 
 -- the cleared table
 module _ (g : Flat) (w : WellFormed g) where
@@ -148,32 +173,30 @@ module _ (g : Flat) (mode : ℕ) (follow first empty : List ℕ) (c : Checked) (
     pub visit-refused : (p : ℕ) → Call (visitDue g mode p l) (Visits g mode p (firsts first empty) follow) follow (refused m) follow
     visit-refused p = rw (q, e) (call-refused n (after-refused g c _ n is e))
 
-  module _ (e : c ≡ Well) (n : ℕ) (en : n ≡ g .rules) (x : Bool) (ex : x ≡ lentWrong n (length (g .costs)) l) where
-    lent-is : x ≡ lentWrong (g .rules) (length (g .costs)) l
-    lent-is = rw (ex, en)
+  module _ (e : c ≡ Well) (n : ℕ) (en : n ≡ g .rules) (x : ℕ) (ex : x ≡ numberIn (lentDue n (length (g .costs)) mode l)) where
+    number-is : x ≡ numberIn (lentDue (g .rules) (length (g .costs)) mode l)
+    number-is = rw (ex, en)
 
-    -- 7
-    module _ (k : x ≡ true) where
-      pub fill-7 : Call (fillDue g mode l) (Fills g mode) l (refused 7) l
-      fill-7 = call-refused 7 (after-well g c _ is e ∙ rw (← lent-is, k))
+    -- 7 and 8
+    module _ (k : 0 < x) where
+      due-is : lentDue (g .rules) (length (g .costs)) mode l ≡ refused x
+      due-is = due-number _ x number-is k
 
-      pub visit-7 : (p : ℕ) → Call (visitDue g mode p l) (Visits g mode p (firsts first empty) follow) follow (refused 7) follow
-      visit-7 p = call-refused 7 (after-well g c _ is e ∙ rw (← lent-is, k))
+      pub fill-wrong : Call (fillDue g mode l) (Fills g mode) l (refused x) l
+      fill-wrong = call-refused x (after-well g c _ is e ∙ due-is)
 
-    module _ (k : x ≡ false) where
-      -- 8
-      module _ (t : (not (eqb mode 1) && not (eqb mode 2)) ≡ true) where
-        pub fill-8 : Call (fillDue g mode l) (Fills g mode) l (refused 8) l
-        fill-8 = call-refused 8 (after-well g c _ is e ∙ rw (← lent-is, k, mode-not mode t))
+      pub visit-wrong : (p : ℕ) → Call (visitDue g mode p l) (Visits g mode p (firsts first empty) follow) follow (refused x) follow
+      visit-wrong p = call-refused x (after-well g c _ is e ∙ ap (λ z. after z (unless (leb (length (g .owners)) p) 11 (answers tt))) due-is)
 
-        pub visit-8 : (p : ℕ) → Call (visitDue g mode p l) (Visits g mode p (firsts first empty) follow) follow (refused 8) follow
-        visit-8 p = call-refused 8 (after-well g c _ is e ∙ rw (← lent-is, k, mode-not mode t))
-
+    module _ (k : x ≤ 0) where
       formed : WellFormed g
       formed = well g (sym is ∙ ap checkedIs e)
 
       right : lentWrong (g .rules) (length (g .costs)) l ≡ false
-      right = sym lent-is ∙ k
+      right = none-due (lentWrong (g .rules) (length (g .costs)) l) mode (sym number-is ∙ (let z : x ≡ 0 = omega arith in z)) .0
+
+      means : modeOf mode ≡ answers (kind (eqb mode 2))
+      means = none-due (lentWrong (g .rules) (length (g .costs)) l) mode (sym number-is ∙ (let z : x ≡ 0 = omega arith in z)) .1
 
       long-follow : length follow ≡ g .rules * words (length (g .costs))
       long-follow = table-long (g .rules) (length (g .costs)) follow (or-none (tableWrong (g .rules) (length (g .costs)) follow) _ right .0)
@@ -184,59 +207,58 @@ module _ (g : Flat) (mode : ℕ) (follow first empty : List ℕ) (c : Checked) (
       long-empty : length empty ≡ words (g .rules)
       long-empty = row-long (g .rules) empty (or-none (tableWrong (g .rules) (length (g .costs)) first) _ (or-none (tableWrong (g .rules) (length (g .costs)) follow) _ right .1) .1)
 
-      module _ (t : (not (eqb mode 1) && not (eqb mode 2)) ≡ false) where
-        -- `visit`
-        module _ (p q : ℕ) (eq : q ≡ p) where
-          pub visit-11 : length (g .owners) ≤ q → Call (visitDue g mode p l) (Visits g mode p (firsts first empty) follow) follow (refused 11) follow
-          visit-11 h = call-refused 11 (after-well g c _ is e ∙ rw (← lent-is, k, mode-is mode t, le-leb (length (g .owners)) p (omega arith)))
+      -- `visit`
+      module _ (p q : ℕ) (eq : q ≡ p) where
+        pub visit-11 : length (g .owners) ≤ q → Call (visitDue g mode p l) (Visits g mode p (firsts first empty) follow) follow (refused 11) follow
+        visit-11 h = call-refused 11 (after-well g c _ is e ∙ rw (right, means, le-leb (length (g .owners)) p (omega arith)))
 
-          module _ (h : q < length (g .owners)) where
-            pub visit-ready : Small follow → Small first → Small empty → Ready g q (firsts first empty) follow
-            visit-ready so sf se = record {
-              first = record {
-                well = formed;
-                isProd = h;
-                held = record { first = record { len = long-first; small = sf }; empty = record { len = long-empty ∙ one-row (g .rules); small = se } };
-              };
-              follows = record { len = long-follow; small = so };
-            }
+        module _ (h : q < length (g .owners)) where
+          pub visit-ready : Small follow → Small first → Small empty → Ready g q (firsts first empty) follow
+          visit-ready so sf se = record {
+            first = record {
+              well = formed;
+              isProd = h;
+              held = record { first = record { len = long-first; small = sf }; empty = record { len = long-empty ∙ one-row (g .rules); small = se } };
+            };
+            follows = record { len = long-follow; small = so };
+          }
 
-            pub visit-does : (changed : Bool) (r : Visited) (to : List ℕ) → Steps g (kind (eqb mode 2)) q (firsts first empty) follow changed to → r ≡ visitedOf changed
-                → Call (visitDue g mode p l) (Visits g mode p (firsts first empty) follow) follow (visitedIs r) to
-            visit-does changed r to s d = call-does (visitedIs r) to (after-well g c _ is e ∙ rw (← lent-is, k, mode-is mode t, lt-leb (length (g .owners)) p (omega arith))) (record {
-              mode = kind (eqb mode 2);
-              means = mode-is mode t;
-              changed = changed;
-              told = visited-is changed r d;
-              steps = subst (λ z. Steps g (kind (eqb mode 2)) z (firsts first empty) follow changed to) eq s;
-            })
+          pub visit-does : (changed : Bool) (r : Visited) (to : List ℕ) → Steps g (kind (eqb mode 2)) q (firsts first empty) follow changed to → r ≡ visitedOf changed
+              → Call (visitDue g mode p l) (Visits g mode p (firsts first empty) follow) follow (visitedIs r) to
+          visit-does changed r to s d = call-does (visitedIs r) to (after-well g c _ is e ∙ rw (right, means, lt-leb (length (g .owners)) p (omega arith))) (record {
+            mode = kind (eqb mode 2);
+            means = means;
+            changed = changed;
+            told = visited-is changed r d;
+            steps = subst (λ z. Steps g (kind (eqb mode 2)) z (firsts first empty) follow changed to) eq s;
+          })
 
-        -- `fill`
-        module _ (f′ e′ : List ℕ) (cf : f′ ≡ replicate (length first) 0) (ce : e′ ≡ replicate (length empty) 0) where
-          cleared : firsts f′ e′ ≡ zeros g
-          cleared = zeros-cleared g first empty f′ e′ long-first long-empty cf ce
+      -- `fill`
+      module _ (f′ e′ : List ℕ) (cf : f′ ≡ replicate (length first) 0) (ce : e′ ≡ replicate (length empty) 0) where
+        cleared : firsts f′ e′ ≡ zeros g
+        cleared = zeros-cleared g first empty f′ e′ long-first long-empty cf ce
 
-          pub fill-first : FirstBegun g (firsts f′ e′)
-          fill-first = subst (λ z. FirstBegun g z) (sym cleared) (zeros-begun g formed)
+        pub fill-first : FirstBegun g (firsts f′ e′)
+        fill-first = subst (λ z. FirstBegun g z) (sym cleared) (zeros-begun g formed)
 
-          pub fill-begin : (0 < length (g .costs)) × ((length (g .costs) ≤ 512) × (words (length (g .costs)) ≤ length follow))
-          fill-begin = begin-asks g formed follow long-follow
+        pub fill-begin : (0 < length (g .costs)) × ((length (g .costs) ≤ 512) × (words (length (g .costs)) ≤ length follow))
+        fill-begin = begin-asks g formed follow long-follow
 
-          module _ (f″ e″ : List ℕ) (s : FirstSettled g (firsts f′ e′) (firsts f″ e″)) (o′ : List ℕ) (co : o′ ≡ marked (words (length (g .costs))) (replicate (length follow) 0) 0 (length (g .costs) - 1)) where
-            read : FirstDefined g (firsts f″ e″)
-            read = settled-defined g formed (firsts f″ e″) (subst (λ z. FirstSettled g z (firsts f″ e″)) cleared s)
+        module _ (f″ e″ : List ℕ) (s : FirstSettled g (firsts f′ e′) (firsts f″ e″)) (o′ : List ℕ) (co : o′ ≡ marked (words (length (g .costs))) (replicate (length follow) 0) 0 (length (g .costs) - 1)) where
+          read : FirstDefined g (firsts f″ e″)
+          read = settled-defined g formed (firsts f″ e″) (subst (λ z. FirstSettled g z (firsts f″ e″)) cleared s)
 
-            begins : o′ ≡ begun g
-            begins = begin-leaves g formed follow long-follow o′ co
+          begins : o′ ≡ begun g
+          begins = begin-leaves g formed follow long-follow o′ co
 
-            pub fill-begun : Begun g (firsts f″ e″) o′
-            fill-begun = record { well = formed; held = read .held; follows = rw begins (begun-held g formed) }
+          pub fill-begun : Begun g (firsts f″ e″) o′
+          fill-begun = record { well = formed; held = read .held; follows = rw begins (begun-held g formed) }
 
-            pub fill-does : (o″ : List ℕ) → Settled g (kind (eqb mode 2)) (firsts f″ e″) o′ o″ → Call (fillDue g mode l) (Fills g mode) l (answers tt) (lent o″ (firsts f″ e″))
-            fill-does o″ d = call-does (answers tt) (lent o″ (firsts f″ e″)) (after-well g c _ is e ∙ rw (← lent-is, k, mode-is mode t)) (record {
-              done = refl;
-              mode = kind (eqb mode 2);
-              means = mode-is mode t;
-              follow = follow-defined g formed (kind (eqb mode 2)) (firsts f″ e″) read o″ (subst (λ z. Settled g (kind (eqb mode 2)) (firsts f″ e″) z o″) begins d);
-              read = read;
-            })
+          pub fill-does : (o″ : List ℕ) → Settled g (kind (eqb mode 2)) (firsts f″ e″) o′ o″ → Call (fillDue g mode l) (Fills g mode) l (answers tt) (lent o″ (firsts f″ e″))
+          fill-does o″ d = call-does (answers tt) (lent o″ (firsts f″ e″)) (after-well g c _ is e ∙ rw (right, means)) (record {
+            done = refl;
+            mode = kind (eqb mode 2);
+            means = means;
+            follow = follow-defined g formed (kind (eqb mode 2)) (firsts f″ e″) read o″ (subst (λ z. Settled g (kind (eqb mode 2)) (firsts f″ e″) z o″) begins d);
+            read = read;
+          })

@@ -27,14 +27,23 @@ use Rattle.follows.specs.Step.{Steps}
 abbrev pub modeOf : ℕ → Outcome Mode
 modeOf n = cond (eqb n 1) (answers crate) (cond (eqb n 2) (answers corrected) (refused 8))
 
--- a refused mode ends the call; otherwise the call goes on
-abbrev pub unlessMode : {A : Type 0} → Outcome Mode → Outcome A → Outcome A
-unlessMode (answers m) x = x
-unlessMode (refused n) x = refused n
+-- a refusal ends the call; otherwise the call goes on
+abbrev pub after : {A B : Type 0} → Outcome A → Outcome B → Outcome B
+after (answers a) x = x
+after (refused n) x = refused n
 
 -- 7: a lent table is not of its exact length
 abbrev pub lentWrong : (R T : ℕ) → Lent → Bool
 lentWrong R T l = tableWrong R T (l .follow) || (tableWrong R T (l .read .first) || rowWrong R (l .read .empty))
+
+-- 7, and then 8
+abbrev pub lentDue : (R T n : ℕ) → Lent → Outcome (Unit {0})
+lentDue R T n l = unless (lentWrong R T l) 7 (after (modeOf n) (answers tt))
+
+-- the number of a refusal, 0 for none
+abbrev pub numberIn : Outcome (Unit {0}) → ℕ
+numberIn (answers u) = 0
+numberIn (refused n) = n
 
 -- clear gives 1 to 7
 abbrev pub clearDue : Flat → List ℕ → Outcome (Unit {0})
@@ -42,11 +51,11 @@ clearDue g follow = unlessDue g (unless (tableWrong (g .rules) (length (g .costs
 
 -- fill gives 1 to 8
 abbrev pub fillDue : Flat → ℕ → Lent → Outcome (Unit {0})
-fillDue g n l = unlessDue g (unless (lentWrong (g .rules) (length (g .costs)) l) 7 (unlessMode (modeOf n) (answers tt)))
+fillDue g n l = unlessDue g (lentDue (g .rules) (length (g .costs)) n l)
 
 -- visit gives 1 to 8, and 11
 abbrev pub visitDue : Flat → ℕ → ℕ → Lent → Outcome (Unit {0})
-visitDue g n p l = unlessDue g (unless (lentWrong (g .rules) (length (g .costs)) l) 7 (unlessMode (modeOf n) (unless (leb (length (g .owners)) p) 11 (answers tt))))
+visitDue g n p l = unlessDue g (after (lentDue (g .rules) (length (g .costs)) n l) (unless (leb (length (g .owners)) p) 11 (answers tt)))
 
 -- cleared means all zero, except that FOLLOW holds (rule 0, eof)
 abbrev pub begun : Flat → List ℕ

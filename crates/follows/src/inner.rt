@@ -16,15 +16,29 @@ ghost use Rattle.tables.specs.Sizes.{words};
 ghost use Rattle.firsts.specs.Lent.{lent as firsts, marksOf};
 ghost use Rattle.follows.specs.Lent.{lent, tableOf};
 ghost use Rattle.follows.specs.Step.{kind, Grown, Puts, Passable, Passes, Turnable, Turns, Walkable, Ready, Steps, Begun, Rounds, Settled};
-ghost use Rattle.follows.specs.Calls.{lentWrong};
+ghost use Rattle.follows.specs.Calls.{lentDue, numberIn};
 
-// Refusal 7 for the three tables.
-pub fn lent_wrong(rules: usize, tokens: usize, follow: &[u32], first: &[u32], empty: &[u32]) -> bool
+// The first of the refusals 7, for the three tables, and 8 that is due; 0 for none.
+pub fn wrong(
+    rules: usize,
+    tokens: usize,
+    mode: u16,
+    follow: &[u32],
+    first: &[u32],
+    empty: &[u32],
+) -> u16
     requires { ⌜ (rules ≤ 512) × (tokens ≤ 512) ⌝ }
-    ensures { λ r. ⌜ r ≡ lentWrong rules tokens (lent (now (follow .entry)) (firsts (now (first .entry)) (now (empty .entry)))) ⌝ }
+    ensures { λ r. ⌜ r ≡ numberIn (lentDue rules tokens mode (lent (now (follow .entry)) (firsts (now (first .entry)) (now (empty .entry))))) ⌝ }
 {
-    table_wrong(rules, tokens, follow)
+    if table_wrong(rules, tokens, follow)
         | (table_wrong(rules, tokens, first) | row_wrong(rules, empty))
+    {
+        return 7;
+    }
+    if (mode != 1) & (mode != 2) {
+        return 8;
+    }
+    0
 }
 
 // Sets FOLLOW to zero but for (rule 0, eof).

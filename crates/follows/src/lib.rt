@@ -54,12 +54,9 @@ pub fn visit(
     let Checked::Well = c else {
         return Visited::Refused(number(c));
     };
-    let n = wide(rules);
-    if inner::lent_wrong(n, costs.len(), follow, first, empty) {
-        return Visited::Refused(7);
-    }
-    if (mode != 1) & (mode != 2) {
-        return Visited::Refused(8);
+    let wrong = inner::wrong(wide(rules), costs.len(), mode, follow, first, empty);
+    if 0 < wrong {
+        return Visited::Refused(wrong);
     }
     let p = wide(prod.0);
     if owners.len() <= p {
@@ -97,11 +94,9 @@ pub fn fill(
     let Checked::Well = c else {
         return Filled::Refused(number(c));
     };
-    if inner::lent_wrong(wide(rules), costs.len(), follow, first, empty) {
-        return Filled::Refused(7);
-    }
-    if (mode != 1) & (mode != 2) {
-        return Filled::Refused(8);
+    let wrong = inner::wrong(wide(rules), costs.len(), mode, follow, first, empty);
+    if 0 < wrong {
+        return Filled::Refused(wrong);
     }
     rows::inner::clear(first, 0);
     rows::inner::clear(empty, 0);

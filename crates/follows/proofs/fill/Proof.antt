@@ -1,6 +1,6 @@
 use borrow.Author.Needs.{needs}
 use Rattle.grammar.proofs.Callers.{few-rules, few-tokens}
-use Rattle.follows.proofs.Calling.{fill-refused, fill-7, fill-8, fill-first, fill-begin, fill-begun, fill-does}
+use Rattle.follows.proofs.Calling.{fill-refused, fill-wrong, fill-first, fill-begin, fill-begun, fill-does}
 use Rattle.follows.proofs.inner.settle.Reads as inner-settle-reads′
 use Rattle.follows.proofs.fill.Statement.{statement}
 use Rattle.follows.proofs.fill.Tie as tie
@@ -23,8 +23,8 @@ returns c = search (needs, fill-refused)
 wide-requires : tie.Need-wide-requires
 wide-requires c κs = search needs
 
-lent-wrong-requires : tie.Need-lent-wrong-requires
-lent-wrong-requires c κs = search (needs, few-rules, few-tokens)
+wrong-requires : tie.Need-wrong-requires
+wrong-requires c κs = search (needs, few-rules, few-tokens)
 
 same-length : tie.Need-same-length
 same-length c = search needs
@@ -36,7 +36,22 @@ same-length-3 : tie.Need-same-length-3
 same-length-3 c = search needs
 
 returns-2 : tie.Need-returns-2
-returns-2 c = search (needs, fill-7)
+returns-2 c = search (needs, fill-wrong)
+
+clear-requires : tie.Need-clear-requires
+clear-requires c κs = search needs
+
+clear-requires-2 : tie.Need-clear-requires-2
+clear-requires-2 c κs = search needs
+
+settle-requires : tie.Need-settle-requires
+settle-requires c κs = let e = c .before .before .before .before in let d = e .before .before .before .before in let t = d .before .before in let x = t .before in let v = x .before .before .before .before in let m = v .before in let k = m .before .before in fill-first _ (k .before .before .before .before .before .before .before .before .args .mode) _ _ _ _ (k .check .ensures) (m .enum-told .given .1) _ (v .wide .ensures .0) _ (x .wrong .ensures) (t .if1 .left) _ _ (d .clear .ensures) (e .clear2 .ensures)
+
+begin-requires : tie.Need-begin-requires
+begin-requires c κs = let z = c .before .before .before .before .before in let e = z .before .before .before .before .before in let d = e .before .before .before .before in let t = d .before .before in let x = t .before in let v = x .before .before .before .before in let m = v .before in let k = m .before .before in fill-begin _ (k .before .before .before .before .before .before .before .before .args .mode) _ _ _ _ (k .check .ensures) (m .enum-told .given .1) _ (v .wide .ensures .0) _ (x .wrong .ensures) (t .if1 .left) _ _ (d .clear .ensures) (e .clear2 .ensures)
+
+settle-requires-2 : tie.Need-settle-requires-2
+settle-requires-2 c κs = let a = c .before .before .before .before .before in let z = a .before .before .before .before .before .before in let e = z .before .before .before .before .before in let d = e .before .before .before .before in let t = d .before .before in let x = t .before in let v = x .before .before .before .before in let m = v .before in let k = m .before .before in fill-begun _ (k .before .before .before .before .before .before .before .before .args .mode) _ _ _ _ (k .check .ensures) (m .enum-told .given .1) _ (v .wide .ensures .0) _ (x .wrong .ensures) (t .if1 .left) _ _ (d .clear .ensures) (e .clear2 .ensures) _ _ (z .settle .ensures) _ (a .begin .ensures)
 
 same-length-4 : tie.Need-same-length-4
 same-length-4 c = search needs
@@ -48,34 +63,7 @@ same-length-6 : tie.Need-same-length-6
 same-length-6 c = search needs
 
 returns-3 : tie.Need-returns-3
-returns-3 c = search (needs, fill-8)
-
-clear-requires : tie.Need-clear-requires
-clear-requires c κs = search needs
-
-clear-requires-2 : tie.Need-clear-requires-2
-clear-requires-2 c κs = search needs
-
-settle-requires : tie.Need-settle-requires
-settle-requires c κs = let e = c .before .before .before .before in let d = e .before .before .before .before in let n = d .before .before in let t = n .before in let x = t .before in let v = x .before .before .before .before in let m = v .before in let k = m .before .before in fill-first _ (k .before .before .before .before .before .before .before .before .args .mode) _ _ _ _ (k .check .ensures) (m .enum-told .given .1) _ (v .wide .ensures .0) _ (x .lent-wrong .ensures) (t .if1 .left) (n .if2 .left) _ _ (d .clear .ensures) (e .clear2 .ensures)
-
-begin-requires : tie.Need-begin-requires
-begin-requires c κs = let z = c .before .before .before .before .before in let e = z .before .before .before .before .before in let d = e .before .before .before .before in let n = d .before .before in let t = n .before in let x = t .before in let v = x .before .before .before .before in let m = v .before in let k = m .before .before in fill-begin _ (k .before .before .before .before .before .before .before .before .args .mode) _ _ _ _ (k .check .ensures) (m .enum-told .given .1) _ (v .wide .ensures .0) _ (x .lent-wrong .ensures) (t .if1 .left) (n .if2 .left) _ _ (d .clear .ensures) (e .clear2 .ensures)
-
-settle-requires-2 : tie.Need-settle-requires-2
-settle-requires-2 c κs = let a = c .before .before .before .before .before in let z = a .before .before .before .before .before .before in let e = z .before .before .before .before .before in let d = e .before .before .before .before in let n = d .before .before in let t = n .before in let x = t .before in let v = x .before .before .before .before in let m = v .before in let k = m .before .before in fill-begun _ (k .before .before .before .before .before .before .before .before .args .mode) _ _ _ _ (k .check .ensures) (m .enum-told .given .1) _ (v .wide .ensures .0) _ (x .lent-wrong .ensures) (t .if1 .left) (n .if2 .left) _ _ (d .clear .ensures) (e .clear2 .ensures) _ _ (z .settle .ensures) _ (a .begin .ensures)
-
-same-length-7 : tie.Need-same-length-7
-same-length-7 c = search needs
-
-same-length-8 : tie.Need-same-length-8
-same-length-8 c = search needs
-
-same-length-9 : tie.Need-same-length-9
-same-length-9 c = search needs
-
-returns-4 : tie.Need-returns-4
-returns-4 c = let y = c .before .before in let a = y .before .before .before .before .before .before in let z = a .before .before .before .before .before .before in let e = z .before .before .before .before .before in let d = e .before .before .before .before in let n = d .before .before in let t = n .before in let x = t .before in let v = x .before .before .before .before in let m = v .before in let k = m .before .before in fill-does _ (k .before .before .before .before .before .before .before .before .args .mode) _ _ _ _ (k .check .ensures) (m .enum-told .given .1) _ (v .wide .ensures .0) _ (x .lent-wrong .ensures) (t .if1 .left) (n .if2 .left) _ _ (d .clear .ensures) (e .clear2 .ensures) _ _ (z .settle .ensures) _ (a .begin .ensures) _ (y .settle2 .ensures)
+returns-3 c = let y = c .before .before in let a = y .before .before .before .before .before .before in let z = a .before .before .before .before .before .before in let e = z .before .before .before .before .before in let d = e .before .before .before .before in let t = d .before .before in let x = t .before in let v = x .before .before .before .before in let m = v .before in let k = m .before .before in fill-does _ (k .before .before .before .before .before .before .before .before .args .mode) _ _ _ _ (k .check .ensures) (m .enum-told .given .1) _ (v .wide .ensures .0) _ (x .wrong .ensures) (t .if1 .left) _ _ (d .clear .ensures) (e .clear2 .ensures) _ _ (z .settle .ensures) _ (a .begin .ensures) _ (y .settle2 .ensures)
 
 pub fill-spec : {M : Type 1} → statement M
 fill-spec =
@@ -87,21 +75,17 @@ fill-spec =
     number-requires
     returns
     wide-requires
-    lent-wrong-requires
+    wrong-requires
     same-length
     same-length-2
     same-length-3
     returns-2
-    same-length-4
-    same-length-5
-    same-length-6
-    returns-3
     clear-requires
     clear-requires-2
     settle-requires
     begin-requires
     settle-requires-2
-    same-length-7
-    same-length-8
-    same-length-9
-    returns-4)
+    same-length-4
+    same-length-5
+    same-length-6
+    returns-3)

@@ -4,9 +4,9 @@ use mathlib.Core.List.{List}
 use mathlib.Core.Path.{_≡_, refl, sym, _∙_, ap, subst}
 use Prim.Native.Nat.{ℕ, zero, suc, _*_, _≤_, _<_}
 use native.Mathlib.Omega.{arith}
-use lib.Dec.{leb, eqb}
+use lib.Dec.{leb}
 use lib.ListN.{length}
-use borrow.Author.Tests.{leb-false, lt-leb, eq-eqb}
+use borrow.Author.Tests.{leb-false, lt-leb}
 use Rattle.theory.specs.Rounds.{AllRounds}
 use Rattle.theory.specs.Tables.{FirstTrue, FirstExact}
 use Rattle.theory.specs.Visits.{Marks, firstVisit, firstCleared}
@@ -22,22 +22,19 @@ use Rattle.source.proofs.Firsts.{firsts-returns, firsts-exact}
 use Rattle.tables.specs.Sizes.{words, tableWrong, rowWrong}
 use Rattle.tables.specs.Trace.{ask, Trace, Rounded, AtRest}
 use Rattle.tables.specs.declared.Filled.{Filled}
+use Rattle.tables.proofs.Asking.{table-right, row-right}
 use Rattle.tables.proofs.AnyOrder.{unless-not, goes, Steady, visits-spare, visits-hold, rest-exact, rounds-still}
 use Rattle.firsts.specs.Lent.{Lent, lent, Held, Spared, marksOf}
 use Rattle.firsts.specs.Step.{Steps}
 use Rattle.firsts.specs.Calls.{lentWrong, fillDue, visitDue, zeros, firstVisits, Defined, Fill}
 use Rattle.firsts.proofs.Moving.{spared-same, spared-then, steps-view, steps-spared}
-use Rattle.firsts.proofs.Calling.{zeros-marks, zeros-held}
+use Rattle.firsts.proofs.Calling.{one-row, zeros-marks, zeros-held}
 use Rattle.firsts.proofs.Determined.{defined-one}
 
 module _ (g : Flat) (w : WellFormed g) where
   -- tables of their lengths are refused nothing but a number
   right : (l : Lent) → Held (g .rules) (length (g .costs)) l → lentWrong g l ≡ false
-  unfolding tableWrong rowWrong
-  right l h = rw (
-    eq-eqb (length (l .first)) (g .rules * words (length (g .costs))) (h .first .len),
-    eq-eqb (length (l .empty)) (words (g .rules)) (h .empty .len ∙ (let z : 1 * words (g .rules) ≡ words (g .rules) = omega arith in z)),
-  )
+  right l h = rw (table-right (g .rules) (length (g .costs)) (l .first) (h .first .len), row-right (g .rules) (l .empty) (h .empty .len ∙ sym (one-row (g .rules))))
 
   due-prod : (p : ℕ) (l : Lent) → visitDue g p l ≡ answers tt → p < length (g .owners)
   due-prod p l e =

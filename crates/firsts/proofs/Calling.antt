@@ -22,8 +22,8 @@ use Rattle.grammar.proofs.Denoted.{proper}
 use Rattle.grammar.proofs.Lowest.{after-well, after-refused}
 use Rattle.grammar.proofs.Well.{well}
 use Rattle.rows.specs.Marks.{mark, Small}
-use Rattle.rows.specs.Tables.{Sized, view}
-use Rattle.rows.proofs.Tables.{cleared-mark, cleared-sized, cleared-view}
+use Rattle.rows.specs.Tables.{view}
+use Rattle.rows.proofs.Tables.{cleared-mark, cleared-sized, cleared-row, cleared-view}
 use Rattle.tables.specs.Answers.{visitedIs, filledIs, visitedOf}
 use Rattle.tables.specs.Call.{Call}
 use Rattle.tables.specs.Sizes.{words, tableWrong, rowWrong}
@@ -35,7 +35,7 @@ use Rattle.firsts.specs.Step.{Ready, Steps, Begun, Settled}
 use Rattle.firsts.specs.Calls.{lentWrong, fillDue, visitDue, zeros, Clears, Visits, Defined, Fills, Clear, Visit, Fill}
 use Rattle.firsts.proofs.Moving.{marks-same}
 
-one-row : (n : ℕ) → words n ≡ 1 * words n
+pub one-row : (n : ℕ) → words n ≡ 1 * words n
 one-row n = omega arith
 
 -- zeros hold no mark
@@ -48,8 +48,32 @@ zeros-marks g = marks-same _ _
 pub zeros-held : (g : Flat) → Held (g .rules) (length (g .costs)) (zeros g)
 zeros-held g = record {
   first = cleared-sized (g .rules) (words (length (g .costs)));
-  empty = subst (λ z. Sized 1 (words (g .rules)) (replicate z 0)) (sym (one-row (g .rules))) (cleared-sized 1 (words (g .rules)));
+  empty = cleared-row (words (g .rules));
 }
+
+-- both tables cleared
+pub zeros-cleared : (g : Flat) (first empty f e : List ℕ) → length first ≡ g .rules * words (length (g .costs)) → length empty ≡ words (g .rules) → f ≡ replicate (length first) 0 → e ≡ replicate (length empty) 0 → lent f e ≡ zeros g
+zeros-cleared g first empty f e lf le cf ce = ap₂ lent (cf ∙ ap (λ z. replicate z 0) lf) (ce ∙ ap (λ z. replicate z 0) le)
+
+module _ (g : Flat) (w : WellFormed g) where
+  pub zeros-begun : Begun g (zeros g)
+  zeros-begun = record { well = w; held = zeros-held g; no-eof = λ r. ap (λ z. z .first r (length (g .costs) - 1)) (zeros-marks g) }
+
+  -- rounds from there until none changes anything leave the defined tables
+  module _ (l : Lent) (s : Settled g (zeros g) l) where
+    exact : FirstExact (denoted g) (marksOf (g .rules) (length (g .costs)) l)
+    exact =
+        let r : marksOf (g .rules) (length (g .costs)) l ≡ run (firstVisit (denoted g)) (s .visits) firstCleared =
+        s .ran ∙ ap (run (firstVisit (denoted g)) (s .visits)) (zeros-marks g) in
+        rw r (first-any-order (denoted g) (proper g w) .exact (s .visits) (s .valid) (rw r at (s .rest)))
+
+    pub settled-defined : Defined g l
+    settled-defined = record {
+      held = s .keeps .held (zeros-held g);
+      exact = exact;
+      first-spare = λ r t lr le lt. s .keeps .first r t lr le lt ∙ cleared-mark (words (length (g .costs))) (g .rules * words (length (g .costs))) r t;
+      empty-spare = λ r le lt. s .keeps .empty r le lt ∙ cleared-mark (words (g .rules)) (words (g .rules)) 0 r;
+    }
 
 module _ (g : Flat) (first empty : List ℕ) (c : Checked) (is : checkedIs c ≡ checkOf g) where
   -- a refused grammar
@@ -94,32 +118,18 @@ module _ (g : Flat) (first empty : List ℕ) (c : Checked) (is : checkedIs c ≡
       -- `clear`
       module _ (f′ e′ : List ℕ) (cf : f′ ≡ replicate (length first) 0) (ce : e′ ≡ replicate (length empty) 0) where
         cleared : lent f′ e′ ≡ zeros g
-        cleared = ap₂ lent (cf ∙ ap (λ z. replicate z 0) long-first) (ce ∙ ap (λ z. replicate z 0) long-empty)
+        cleared = zeros-cleared g first empty f′ e′ long-first long-empty cf ce
 
         pub clear-does : Call (fillDue g (lent first empty)) (Clears g) (lent first empty) (answers tt) (lent f′ e′)
         clear-does = call-does (answers tt) (lent f′ e′) fill-due (record { done = refl; cleared = cleared })
 
         pub fill-begun : Begun g (lent f′ e′)
-        fill-begun = subst (λ z. Begun g z) (sym cleared) (record { well = formed; held = zeros-held g; no-eof = λ r. ap (λ z. z .first r (length (g .costs) - 1)) (zeros-marks g) })
+        fill-begun = subst (λ z. Begun g z) (sym cleared) (zeros-begun g formed)
 
         -- `fill`
         module _ (f″ e″ : List ℕ) (s : Settled g (lent f′ e′) (lent f″ e″)) where
-          start : Settled g (zeros g) (lent f″ e″)
-          start = subst (λ z. Settled g z (lent f″ e″)) cleared s
-
-          exact : FirstExact (denoted g) (marksOf (g .rules) (length (g .costs)) (lent f″ e″))
-          exact =
-              let r : marksOf (g .rules) (length (g .costs)) (lent f″ e″) ≡ run (firstVisit (denoted g)) (start .visits) firstCleared =
-              start .ran ∙ ap (run (firstVisit (denoted g)) (start .visits)) (zeros-marks g) in
-              rw r (first-any-order (denoted g) (proper g formed) .exact (start .visits) (start .valid) (rw r at (start .rest)))
-
           defined : Defined g (lent f″ e″)
-          defined = record {
-            held = start .keeps .held (zeros-held g);
-            exact = exact;
-            first-spare = λ r t lr le lt. start .keeps .first r t lr le lt ∙ cleared-mark (words (length (g .costs))) (g .rules * words (length (g .costs))) r t;
-            empty-spare = λ r le lt. start .keeps .empty r le lt ∙ cleared-mark (words (g .rules)) (words (g .rules)) 0 r;
-          }
+          defined = settled-defined g formed (lent f″ e″) (subst (λ z. Settled g z (lent f″ e″)) cleared s)
 
           pub fill-does : Call (fillDue g (lent first empty)) (Fills g) (lent first empty) (answers tt) (lent f″ e″)
           fill-does = call-does (answers tt) (lent f″ e″) fill-due (record { done = refl; defined = defined })

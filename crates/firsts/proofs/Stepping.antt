@@ -22,7 +22,7 @@ use Rattle.firsts.specs.Lent.{Lent, lent, Held, marksOf}
 use Rattle.firsts.specs.Step.{Walkable, Walks, Ready, Steps}
 
 -- a fresh mark is a change
-fresh-not : {T W : ℕ} {ws to : List ℕ} {o : ℕ} → Fresh T W ws to o → to ≡ ws → ⊥
+pub fresh-not : {T W : ℕ} {ws to : List ℕ} {o : ℕ} → Fresh T W ws to o → to ≡ ws → ⊥
 fresh-not {T} {W} {ws} {to} {o} f e = false≢true (sym (f .was) ∙ ap (λ z. mark W z o (f .at)) (sym e) ∙ f .is)
 
 -- what production p's step asks of what it calls

@@ -3,7 +3,6 @@ use mathlib.Core.Bool.{Bool, true, false, not, cond, _&&_, _||_, or-false, or-as
 use mathlib.Core.List.{List, _∷_}
 use mathlib.Core.Path.{_≡_, refl, sym, ap, _∙_}
 use Prim.Native.Nat.{ℕ, suc, _+_, _-_, _*_, _/_, _≤_, _<_}
-use native.Mathlib.Nat.{mul-le-mul-right}
 use native.Mathlib.Omega.{arith}
 use lib.Dec.{ltb, eqb}
 use lib.ListN.{length}
@@ -16,7 +15,7 @@ use Rattle.grammar.specs.Well.{SymbolFits}
 use Rattle.grammar.proofs.Forms.{form-done, form-token, form-rule}
 use Rattle.rows.specs.Marks.{place, mark, marked, Raised, Rows}
 use Rattle.rows.specs.Tables.{Sized}
-use Rattle.rows.proofs.Marks.{row-in}
+use Rattle.rows.proofs.Marks.{row-in, row-whole}
 use Rattle.rows.proofs.Raise.{raised-as, raised-none, raised-then, raised-join, raised-mark}
 use Rattle.rows.proofs.Tables.{view-mark}
 use Rattle.tables.specs.Sizes.{words}
@@ -97,9 +96,9 @@ module _ (R T : ℕ) (symbols : List ℕ) (a e o : ℕ) (l : Lent) (ok : Walkabl
         rule-below = omega (arith, fits .rule high)
 
         row-below : (r : ℕ) → r < R → r * words T + words T ≤ length now
-        row-below r lr = omega (arith, long, mul-le-mul-right {m = suc r} {n = R} (words T) lr)
+        row-below r lr = row-whole R (words T) now r long lr
 
-        pub rows-place : (wd x : ℕ) → wd ≡ words T → x ≡ s - 32768 → Rows T wd now x o
+        pub rows-place : (wd x : ℕ) → wd ≡ words T → x ≡ s - 32768 → Rows T wd now x now o
         rows-place wd x ew ex = rw (ew, ex) (record { fits = wide; from = row-below (s - 32768) rule-below; to = row-below o (ok .owner) })
 
         pub empty-place : (rd x : ℕ) → rd ≡ words R → x ≡ s - 32768 → place rd 0 x < length (l .empty)

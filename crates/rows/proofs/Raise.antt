@@ -43,6 +43,10 @@ raised-as {T} {W} {ws} {to} {o} {f} h e x = record {
   still = x .still;
 }
 
+-- the row itself, below T
+pub raised-row : {T W : ℕ} {ws to : List ℕ} {o : ℕ} {f : ℕ → Bool} {new : Bool} → T ≤ W * 32 → Raised T W ws to o f new → (t : ℕ) → t < T → mark W to o t ≡ (mark W ws o t || f t)
+raised-row {T} {o = o} wide x t lt = x .marks o t (omega arith) ∙ rw (eq-eqb o o refl, lt-ltb t T lt)
+
 -- nothing
 pub raised-none : {T W : ℕ} {ws : List ℕ} {o : ℕ} (f : ℕ → Bool) → Small ws → ((t : ℕ) → t < T → f t ≡ false) → Raised T W ws ws o f false
 raised-none {T} {W} {ws} {o} f s e = raised-as f (λ t lt. sym (e t lt)) (record {

@@ -39,12 +39,12 @@ pub fn set(table: &mut [u32], width: usize, r: usize, t: usize) -> bool
     !bit_of(word, t % 32)
 }
 
-// Joins mark t of row `from` to row `to`; whether that is new.
-fn join_one(table: &mut [u32], width: usize, from: usize, to: usize, t: usize) -> bool
-    requires { ⌜ (place width from t < length (now table)) × (place width to t < length (now table)) ⌝ }
-    ensures { λ r. ⌜ JoinedOne width (now (table .entry)) from to t r (now (table .exit)) ⌝ }
+// Joins mark t to row `to` if it is `on`; whether that is new.
+fn join_one(table: &mut [u32], width: usize, to: usize, t: usize, on: bool) -> bool
+    requires { ⌜ place width to t < length (now table) ⌝ }
+    ensures { λ r. ⌜ JoinedOne width (now (table .entry)) on to t r (now (table .exit)) ⌝ }
 {
-    if is_set(table, width, from, t) {
+    if on {
         return set(table, width, to, t);
     }
     false
@@ -52,15 +52,38 @@ fn join_one(table: &mut [u32], width: usize, from: usize, to: usize, t: usize) -
 
 // Joins the marks of row `from` below `tokens` to row `to`, token by token; whether one is new.
 pub fn join(table: &mut [u32], width: usize, tokens: usize, from: usize, to: usize) -> bool
-    requires { ⌜ Rows tokens width (now table) from to ⌝ }
+    requires { ⌜ Rows tokens width (now table) from (now table) to ⌝ }
     ensures { λ r. ⌜ Raised tokens width (now (table .entry)) (now (table .exit)) to (mark width (now (table .entry)) from) r ⌝ }
 {
     let mut new = false;
     let mut t: usize = 0;
     while t < tokens {
-        let got = join_one(table, width, from, to, t);
+        let on = is_set(table, width, from, t);
+        let got = join_one(table, width, to, t, on);
         new = new | got;
         t += 1;
+    }
+    new
+}
+
+// The same for row `from` of another table.
+pub fn join_from(
+    table: &mut [u32],
+    width: usize,
+    tokens: usize,
+    other: &[u32],
+    from: usize,
+    to: usize,
+) -> bool
+    requires { ⌜ Rows tokens width (now other) from (now table) to ⌝ }
+    ensures { λ r. ⌜ Raised tokens width (now (table .entry)) (now (table .exit)) to (mark width (now (other .entry)) from) r ⌝ }
+{
+    let mut new = false;
+    let mut i: usize = 0;
+    while i < tokens {
+        let on = is_set(other, width, from, i);
+        new = new | join_one(table, width, to, i, on);
+        i += 1;
     }
     new
 }

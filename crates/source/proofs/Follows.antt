@@ -208,12 +208,12 @@ module _ (g : Grammar) (ok : Proper g) (m : Marks) (h : FirstExact g m) where
 
   -- the source's loop returns
   pub follows-returns : (t : Table) × Returns g m fresh t
-  follows-returns = until-loops visit order In _ _ round-run round-in round-tracks (follow-cleared-inside g ok crate m h) (until-ends (climb (follow-marked g ok crate m h)) order (rising-round (g .prods)) fresh (follow-cleared-inside g ok crate m h) .1)
+  follows-returns = until-loops visit order In _ _ round-run round-in round-tracks (follow-cleared-inside g ok) (until-ends (climb (follow-marked g ok crate m h)) order (rising-round (g .prods)) fresh (follow-cleared-inside g ok) .1)
 
   -- and what it returns is FOLLOW of the crate's mode
   pub follows-exact : {t : Table} → Returns g m fresh t → FollowExact g crate t
   follows-exact {t} x =
-      let i = follow-cleared-inside g ok crate m h in
+      let i = follow-cleared-inside g ok in
       let u = loops-until visit order In _ _ round-run round-in round-tracks i x in
       follow-rest-exact g crate m h t
       (until-keeps visit (g .prods) (λ f. f 0 (eof g) ≡ true) (λ p lt f e. follow-back-under g crate m (g .owner p) (g .body p) f 0 (eof g) e) (rising-round (g .prods) .valid) u (and-join (eqb-same 0) (eqb-same (eof g))))

@@ -34,7 +34,7 @@ pub numbers-long : (R : ℕ) (numbers : List ℕ) → numbersWrong R numbers ≡
 unfolding numbersWrong
 numbers-long R numbers e = eqb-true _ _ (not-false _ e)
 
--- tables of their lengths are not refused
+-- a table of its length is not refused
 pub table-right : (R T : ℕ) (table : List ℕ) → length table ≡ R * words T → tableWrong R T table ≡ false
 unfolding tableWrong
 table-right R T table e = rw (eq-eqb (length table) (R * words T) e)

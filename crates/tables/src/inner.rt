@@ -55,7 +55,7 @@ pub fn visited(changed: bool) -> Visited
     Visited::Same
 }
 
-// The production that comes i-th of n in a round that goes up or down.
+// The one that comes i-th of n, going up or down.
 pub fn turn_at(down: bool, n: usize, i: usize) -> usize
     requires { ⌜ i < n ⌝ }
     ensures { λ r. ⌜ r ≡ turn down n i ⌝ }

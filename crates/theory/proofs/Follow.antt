@@ -27,6 +27,18 @@ follow-least g m F c start = c .start
 follow-least g m F c (ahead {A = A} {t = t} {v = v} p w x) = c .ahead p A t v w x
 follow-least g m F c (last {A = A} {t = t} {v = v} p w x y) = c .last p A t v w x (follow-least g m F c y)
 
+-- where mode 1 has a mark, mode 2 has it
+ahead-corrected : (g : Grammar) {v : Form} {t : ℕ} → Ahead g crate v t → Ahead g corrected v t
+ahead-corrected g token = token
+ahead-corrected g (first x) = first x
+
+pub follow-corrected : (g : Grammar) {r t : ℕ} → Follow g crate r t → Follow g corrected r t
+follow-corrected g = follow-least g crate (Follow g corrected) (record {
+  start = start;
+  ahead = λ p A t v w x. ahead p (record { counts = w .counts; front = w .front; is = w .is }) (ahead-corrected g x);
+  last = λ p A t v w x y. last p (record { counts = w .counts; front = w .front; is = w .is }) x y;
+})
+
 -- the tests on finished marks are the definitions
 module _ (g : Grammar) (m : Marks) (h : FirstExact g m) where
   pub vanishes-true : (v : Form) → nullable (m .empty) v ≡ true → Vanishes g v
@@ -135,10 +147,7 @@ ahead-inside corrected m T w (rul r ∷ v) h t e =
     let ih : aheadOf corrected m v t ≡ true → t < T = λ k. ahead-inside corrected m T w v (λ u n. h u (List·Memᴰ·tail n)) t k in
     elim (or-split (m .first r t) _ e) [ inl k ↦ w r t k | inr k ↦ ih (and-split (m .empty r) _ k .1) ]
 
-module _ (g : Grammar) (ok : Proper g) (mode : Mode) (m : Marks) (h : FirstExact g m) where
-  first-inside : (r t : ℕ) → m .first r t ≡ true → t < g .tokens
-  first-inside r t e = omega (arith, first-below ok (h .first r t .1 e))
-
+module _ (g : Grammar) (ok : Proper g) (mode : Mode) (m : Marks) (low : (r t : ℕ) → m .first r t ≡ true → t < g .tokens) where
   back-inside : (o : ℕ) (v : Form) → ((t : ℕ) → List·Memᴰ (tok t) v → t < g .tokens) → ((A : ℕ) → List·Memᴰ (rul A) v → A < g .rules) → (f : Table) → Inside (g .rules) (g .tokens) f
       → Inside (g .rules) (g .tokens) (followBack mode m o v f)
   back-inside o [] ht hr f w r t e = w r t e
@@ -151,24 +160,32 @@ module _ (g : Grammar) (ok : Proper g) (mode : Mode) (m : Marks) (h : FirstExact
           subst (λ z. z < g .rules) (sym (x .0)) (hr A (List·Memᴰ·head refl)),
           elim (x .1) [
             | inl y ↦ ih o t (y .1) .1
-            | inr y ↦ ahead-inside mode m (g .tokens) first-inside v (λ t k. ht t (List·Memᴰ·tail k)) t y
+            | inr y ↦ ahead-inside mode m (g .tokens) low v (λ t k. ht t (List·Memᴰ·tail k)) t y
           ],
         )
       ]
 
-  pub follow-marked : Marked (followVisit g mode m) (Inside (g .rules) (g .tokens)) (g .prods) (g .rules) (g .tokens)
-  follow-marked = record {
+  pub follow-inside : (p : ℕ) → p < g .prods → (f : Table) → Inside (g .rules) (g .tokens) f → Inside (g .rules) (g .tokens) (followVisit g mode m p f)
+  follow-inside p lt f w = back-inside (g .owner p) (g .body p) (λ t k. omega (arith, ok .token p lt t k)) (ok .rule p lt) f w
+
+  -- visits over any FIRST that has no mark at T or past it
+  unfoldable pub follow-grows : Marked (followVisit g mode m) (Inside (g .rules) (g .tokens)) (g .prods) (g .rules) (g .tokens)
+  follow-grows = record {
     view = λ f. f;
-    kept = λ p lt f w. back-inside (g .owner p) (g .body p) (λ t k. omega (arith, ok .token p lt t k)) (ok .rule p lt) f w;
+    kept = follow-inside;
     inside = λ f w. w;
     under = λ p f. follow-back-under g mode m (g .owner p) (g .body p) f;
     same = λ p f e. sym e;
   }
 
-  pub follow-cleared-inside : Inside (g .rules) (g .tokens) (followCleared g)
-  follow-cleared-inside r t e =
-      let s = and-split (eqb r 0) _ e in
-      (omega (arith, ok .some-rule, eqb-true r 0 (s .0)), omega (arith, ok .some-token, eqb-true t (eof g) (s .1)))
+pub follow-cleared-inside : (g : Grammar) → Proper g → Inside (g .rules) (g .tokens) (followCleared g)
+follow-cleared-inside g ok r t e =
+    let s = and-split (eqb r 0) _ e in
+    (omega (arith, ok .some-rule, eqb-true r 0 (s .0)), omega (arith, ok .some-token, eqb-true t (eof g) (s .1)))
+
+module _ (g : Grammar) (ok : Proper g) (mode : Mode) (m : Marks) (h : FirstExact g m) where
+  pub follow-marked : Marked (followVisit g mode m) (Inside (g .rules) (g .tokens)) (g .prods) (g .rules) (g .tokens)
+  follow-marked = follow-grows g ok mode m (λ r t e. omega (arith, first-below ok (h .first r t .1 e)))
 
   cleared-fin : followCleared g 0 (eof g) ≡ true
   cleared-fin = and-join (eqb-same 0) (eqb-same (eof g))
@@ -185,5 +202,5 @@ module _ (g : Grammar) (ok : Proper g) (mode : Mode) (m : Marks) (h : FirstExact
     always = run-true;
     exact = λ v k r. follow-rest-exact g mode m h _ (run-fin v k) r (run-true v k);
     agree = follow-one g mode;
-    settles = λ vs k len. rounds-done (climb-ascent (climb follow-marked)) vs k len (followCleared g) follow-cleared-inside;
+    settles = λ vs k len. rounds-done (climb-ascent (climb follow-marked)) vs k len (followCleared g) (follow-cleared-inside g ok);
   }

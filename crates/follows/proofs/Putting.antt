@@ -1,5 +1,5 @@
 -- One symbol's turn: what its row gets, and the row carried past it.
-use mathlib.Core.Bool.{Bool, true, false, not, cond, _&&_, _||_, or-false, or-comm}
+use mathlib.Core.Bool.{Bool, true, false, not, _&&_, _||_, or-false, or-comm}
 use mathlib.Core.List.{List, _∷_}
 use mathlib.Core.Path.{_≡_, refl, sym, ap, _∙_}
 use Prim.Native.Nat.{ℕ, _+_, _-_, _*_, _/_, _^_, _≤_, _<_}
@@ -20,7 +20,7 @@ use Rattle.rows.proofs.Tables.{cleared-mark, cleared-row}
 use Rattle.tables.specs.Sizes.{words}
 use Rattle.firsts.specs.Lent.{Lent as Firsts, Held, marksOf}
 use Rattle.firsts.proofs.Walking.{first-mark, empty-mark}
-use Rattle.follows.specs.Step.{kind, Grown, Carries, Puts, Passable, Passes, Turnable, Turns}
+use Rattle.follows.specs.Step.{kind, Grown, Carries, Puts, Kept, Passable, Passes, Turnable, Turns}
 use Rattle.follows.proofs.Growing.{grown-rule}
 
 -- `put`
@@ -46,17 +46,20 @@ module _ (T o r : ℕ) (ahead follow : List ℕ) (p : Puts T o r ahead follow) (
   put-not null also to e y = rw (e, ← ew) y
 
 -- `keep`
-pub keep-not : (row to : List ℕ) (kept : Bool) → kept ≡ false → to ≡ replicate (length row) 0 → to ≡ cond kept row (replicate (length row) 0)
-keep-not row to kept e h = rw e h
+pub keep-yes : (row : List ℕ) (kept : Bool) → kept ≡ true → Kept row kept row
+keep-yes row kept e = record { left = rw e }
+
+pub keep-not : (row to : List ℕ) (kept : Bool) → kept ≡ false → to ≡ replicate (length row) 0 → Kept row kept to
+keep-not row to kept e h = record { left = rw e h }
 
 module _ (row to : List ℕ) where
-  kept-long : (kept : Bool) → to ≡ cond kept row (replicate (length row) 0) → length to ≡ length row
-  kept-long true h = ap length h
-  kept-long false h = ap length h ∙ length-replicate {A = ℕ} (length row) 0
+  kept-long : (kept : Bool) → Kept row kept to → length to ≡ length row
+  kept-long true h = ap length (h .left)
+  kept-long false h = ap length (h .left) ∙ length-replicate {A = ℕ} (length row) 0
 
-  kept-mark : (W : ℕ) (kept : Bool) → to ≡ cond kept row (replicate (length row) 0) → (t : ℕ) → mark W to 0 t ≡ (kept && mark W row 0 t)
-  kept-mark W true h t = ap (λ z. mark W z 0 t) h
-  kept-mark W false h t = ap (λ z. mark W z 0 t) h ∙ cleared-mark W (length row) 0 t
+  kept-mark : (W : ℕ) (kept : Bool) → Kept row kept to → (t : ℕ) → mark W to 0 t ≡ (kept && mark W row 0 t)
+  kept-mark W true h t = ap (λ z. mark W z 0 t) (h .left)
+  kept-mark W false h t = ap (λ z. mark W z 0 t) (h .left) ∙ cleared-mark W (length row) 0 t
 
 turn-or : (c e a f : Bool) → (((c && e) && a) || f) ≡ (f || (c && (e && a)))
 turn-or true e a f = or-comm (e && a) f
@@ -67,14 +70,14 @@ module _ (R T r : ℕ) (read : Firsts) (ahead : List ℕ) (p : Passable R T r re
   pub pass-place : (rd : ℕ) → rd ≡ words R → place rd 0 r < length (read .empty)
   pass-place rd er = rw er (row-in 1 R (words R) (read .empty) 0 r (omega arith) (p .held .empty .len) (omega arith) (p .rule))
 
-  pub pass-rows : (kept : Bool) (mid : List ℕ) (wd : ℕ) → mid ≡ cond kept ahead (replicate (length ahead) 0) → wd ≡ words T → Rows T wd (read .first) r mid 0
+  pub pass-rows : (kept : Bool) (mid : List ℕ) (wd : ℕ) → Kept ahead kept mid → wd ≡ words T → Rows T wd (read .first) r mid 0
   pass-rows kept mid wd k ew = record {
     fits = omega arith;
     from = rw ew (row-whole R (words T) (read .first) r (p .held .first .len) (p .rule));
     to = rw (ew, kept-long ahead mid kept k) (row-whole 1 (words T) ahead 0 (p .carried .len) (omega arith));
   }
 
-  module _ (rd : ℕ) (c vanishes got : Bool) (mid to : List ℕ) (wd : ℕ) (er : rd ≡ words R) (ev : vanishes ≡ mark rd (read .empty) 0 r) (k : mid ≡ cond (c && vanishes) ahead (replicate (length ahead) 0)) (ew : wd ≡ words T)
+  module _ (rd : ℕ) (c vanishes got : Bool) (mid to : List ℕ) (wd : ℕ) (er : rd ≡ words R) (ev : vanishes ≡ mark rd (read .empty) 0 r) (k : Kept ahead (c && vanishes) mid) (ew : wd ≡ words T)
       (x : Raised T wd mid to 0 (mark wd (read .first) r) got) where
     abbrev m : Marks
     m = marksOf R T read

@@ -47,6 +47,10 @@ pub record Puts (T o r : ℕ) (ahead follow : List ℕ) : Type 0 where
   pub own : Rows T (words T) follow o follow r
   pub carried : Rows T (words T) ahead 0 follow r
 
+-- a row is as it was if it is to be kept, else zero
+pub record Kept (row : List ℕ) (kept : Bool) (to : List ℕ) : Type 0 where
+  pub left : to ≡ cond kept row (replicate (length row) 0)
+
 -- what carrying the row past rule r asks
 pub record Passable (R T r : ℕ) (read : Firsts) (ahead : List ℕ) : Type 0 where
   pub few-rules : R ≤ 512

@@ -6,12 +6,12 @@ use Prim.Native.Nat.{ℕ, _≤_, _<_}
 use lib.ListN.{length, replicate}
 use Rattle.theory.specs.Fills.{turns, Moves, Settles}
 use Rattle.theory.specs.Follow.{Mode, crate, corrected}
-use Rattle.theory.specs.Grammar.{Sym, rul, Form}
+use Rattle.theory.specs.Grammar.{rul, Form}
 use Rattle.theory.specs.Visits.{Table, Marks, nullable, aheadOf, followBack, followVisit}
 use Rattle.grammar.specs.Flat.{Flat, symbol, denoted}
 use Rattle.grammar.specs.Well.{WellFormed, SymbolFits}
 use Rattle.rows.specs.Marks.{mark, Fresh, Rows}
-use Rattle.rows.specs.Tables.{Sized, view, Became}
+use Rattle.rows.specs.Tables.{Sized, Became}
 use Rattle.tables.specs.Sizes.{words}
 use Rattle.firsts.specs.Lent.{Lent as Firsts, Held, marksOf}
 use Rattle.firsts.specs.Step.{Walkable as Forth, Ready as FirstReady}

@@ -11,7 +11,7 @@ ghost use Prim.Native.Nat.{_-_, _≤_, _<_};
 ghost use lib.ListN.{length, replicate};
 ghost use Rattle.theory.specs.Visits.{followBack};
 ghost use Rattle.grammar.specs.Flat.{flat, form};
-ghost use Rattle.rows.specs.Marks.{place, mark, marked, Raised};
+ghost use Rattle.rows.specs.Marks.{mark, marked, Raised};
 ghost use Rattle.tables.specs.Sizes.{words};
 ghost use Rattle.firsts.specs.Lent.{lent as firsts, marksOf};
 ghost use Rattle.follows.specs.Lent.{lent, tableOf};

@@ -19,7 +19,7 @@ use Rattle.rows.specs.Tables.{view, Became}
 use Rattle.rows.proofs.Tables.{became-self, became-as, cleared-mark}
 use Rattle.source.specs.Firsts.{Returns}
 use Rattle.source.proofs.Firsts.{firsts-returns, firsts-exact}
-use Rattle.tables.specs.Sizes.{words, tableWrong, rowWrong}
+use Rattle.tables.specs.Sizes.{words}
 use Rattle.tables.specs.Trace.{ask, Trace, Rounded, AtRest}
 use Rattle.tables.specs.declared.Filled.{Filled}
 use Rattle.tables.proofs.Asking.{table-right, row-right}

@@ -22,7 +22,6 @@ use Rattle.grammar.proofs.Denoted.{proper}
 use Rattle.grammar.proofs.Lowest.{after-well, after-refused}
 use Rattle.grammar.proofs.Well.{well}
 use Rattle.rows.specs.Marks.{mark, Small}
-use Rattle.rows.specs.Tables.{view}
 use Rattle.rows.proofs.Tables.{cleared-mark, cleared-sized, cleared-row, cleared-view}
 use Rattle.tables.specs.Answers.{visitedIs, filledIs, visitedOf}
 use Rattle.tables.specs.Call.{Call}

@@ -1,7 +1,7 @@
 -- Demand 3 on the lent words themselves, for calls of `visit` in any order with refused ones between; demand 2 for what `fill` leaves in mode 1; and that mode 2 loses no mark.
-use mathlib.Core.Bool.{Bool, true, false, _||_}
+use mathlib.Core.Bool.{true, false}
 use mathlib.Core.List.{List}
-use mathlib.Core.Path.{_≡_, refl, sym, _∙_, ap, ap₂, subst}
+use mathlib.Core.Path.{_≡_, refl, sym, _∙_, ap₂, subst}
 use Prim.Native.Nat.{ℕ, _*_, _≤_, _<_}
 use native.Mathlib.Omega.{arith}
 use lib.Dec.{leb}
@@ -17,13 +17,13 @@ use Rattle.grammar.specs.Outcome.{Outcome, answers, refused}
 use Rattle.grammar.specs.Well.{WellFormed}
 use Rattle.grammar.proofs.Denoted.{proper}
 use Rattle.rows.specs.Marks.{mark}
-use Rattle.rows.specs.Tables.{Sized, view}
+use Rattle.rows.specs.Tables.{Sized}
 use Rattle.rows.proofs.Tables.{view-mark}
 use Rattle.source.specs.Firsts.{Returns as FirstReturns}
 use Rattle.source.specs.Follows.{Returns}
 use Rattle.source.proofs.Firsts.{firsts-returns, firsts-exact}
 use Rattle.source.proofs.Follows.{follows-returns, follows-exact}
-use Rattle.tables.specs.Sizes.{words, tableWrong, rowWrong}
+use Rattle.tables.specs.Sizes.{words}
 use Rattle.tables.specs.Trace.{Trace, Rounded, AtRest}
 use Rattle.tables.specs.declared.Filled.{Filled}
 use Rattle.tables.proofs.AnyOrder.{unless-not, goes, Steady, visits-spare, visits-hold, rest-exact, rounds-still}
@@ -131,6 +131,11 @@ module _ (g : Flat) (follow first empty o f e : List ℕ) (q : Filled) (due : fi
   pub fill-crate : Defined g crate o
   fill-crate = subst (λ z. Defined g z o) (mode-one 1 (v .does due .means) refl) (v .does due .follow)
 
+  -- and equals the source
+  pub fill-source : WellFormed g → {m : Marks} → FirstReturns (denoted g) firstCleared m → {t : Table} → Returns (denoted g) m (followCleared (denoted g)) t → tableOf (g .rules) (length (g .costs)) o ≡ t
+  fill-source w s r = source-equal g w o fill-crate s r
+
+  -- and mode 2 has each of its marks
   pub fill-more : (follow′ first′ empty′ o′ f′ e′ : List ℕ) (q′ : Filled) → fillDue g 2 (lent follow′ (firsts first′ empty′)) ≡ answers tt → Fill g 2 follow′ first′ empty′ q′ o′ f′ e′ → (r t : ℕ) → r < g .rules → t < length (g .costs)
       → mark (words (length (g .costs))) o r t ≡ true → mark (words (length (g .costs))) o′ r t ≡ true
   fill-more follow′ first′ empty′ o′ f′ e′ q′ due′ v′ r t lr lt k =

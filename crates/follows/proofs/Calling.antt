@@ -2,7 +2,7 @@
 use mathlib.Core.Bool.{Bool, true, false, not, cond, _&&_, _||_, false≢true, true≢false}
 use mathlib.Core.List.{List}
 use mathlib.Core.Path.{_≡_, refl, sym, _∙_, ap, subst}
-use Prim.Native.Nat.{ℕ, _+_, _-_, _*_, _/_, _≤_, _<_}
+use Prim.Native.Nat.{ℕ, _-_, _*_, _≤_, _<_}
 use native.Mathlib.Omega.{arith}
 use lib.Dec.{eqb, leb}
 use lib.ListN.{length, replicate}
@@ -23,7 +23,7 @@ use Rattle.grammar.proofs.Denoted.{proper}
 use Rattle.grammar.proofs.Lowest.{after-well, after-refused}
 use Rattle.grammar.proofs.Well.{well}
 use Rattle.rows.specs.Marks.{mark, marked, Small, Raised}
-use Rattle.rows.specs.Tables.{Sized, view, Became}
+use Rattle.rows.specs.Tables.{Sized, Became}
 use Rattle.rows.proofs.Marks.{row-in, row-whole}
 use Rattle.rows.proofs.Raise.{raised-mark}
 use Rattle.rows.proofs.Tables.{became-as, became-view, raised-became, cleared-mark, cleared-sized, cleared-view}
@@ -34,7 +34,7 @@ use Rattle.tables.specs.declared.Visited.{Visited}
 use Rattle.tables.proofs.Asking.{table-long, row-long}
 use Rattle.tables.proofs.Calls.{call-refused, call-does, visited-is}
 use Rattle.firsts.specs.Calls.{Defined as FirstDefined, zeros}
-use Rattle.firsts.specs.Lent.{Lent as Firsts, lent as firsts, Held, marksOf}
+use Rattle.firsts.specs.Lent.{Lent as Firsts, lent as firsts, marksOf}
 use Rattle.firsts.specs.Step.{Begun as FirstBegun, Settled as FirstSettled}
 use Rattle.firsts.proofs.Calling.{one-row, zeros-cleared, zeros-begun, settled-defined}
 use Rattle.follows.specs.Lent.{Lent, lent, tableOf}

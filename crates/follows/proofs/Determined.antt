@@ -2,7 +2,7 @@
 use mathlib.Core.Bool.{Bool, true, false}
 use mathlib.Core.List.{List}
 use mathlib.Core.Path.{_≡_, refl, sym, _∙_, ap, ap₂, subst}
-use Prim.Native.Nat.{ℕ, _*_, _≤_, _<_}
+use Prim.Native.Nat.{ℕ}
 use native.Mathlib.Decide.{decLt}
 use native.Mathlib.Omega.{arith}
 use lib.ListN.{length}
@@ -18,7 +18,7 @@ use Rattle.tables.specs.Sizes.{words}
 use Rattle.tables.proofs.Calls.{Both, call-one, visited-one, filled-one}
 use Rattle.firsts.specs.Lent.{Lent as Firsts, lent as firsts}
 use Rattle.firsts.proofs.Determined.{defined-one as firsts-one}
-use Rattle.follows.specs.Lent.{Lent, lent, tableOf}
+use Rattle.follows.specs.Lent.{Lent, lent}
 use Rattle.follows.specs.Step.{Steps}
 use Rattle.follows.specs.Calls.{modeOf, clearDue, fillDue, visitDue, Clears, Visits, Defined, Fills, Clear, Visit, Fill}
 

@@ -1,19 +1,19 @@
 -- A step on lent words is a visit of the marks that they hold, whatever FIRST, EMPTY and FOLLOW hold.
 use mathlib.Core.Bool.{Bool, true, false, false≢true}
 use mathlib.Core.List.{List, [], _∷_}
-use mathlib.Core.Path.{_≡_, refl, sym, ap, _∙_, subst}
-use Prim.Native.Nat.{ℕ, _*_, _≤_, _<_}
+use mathlib.Core.Path.{_≡_, refl, sym, _∙_, subst}
+use Prim.Native.Nat.{ℕ, _*_, _<_}
 use lib.ListN.{length}
 use Rattle.theory.specs.Fills.{Moves}
 use Rattle.theory.specs.Follow.{Mode}
-use Rattle.theory.specs.Visits.{Table, Marks, followVisit}
+use Rattle.theory.specs.Visits.{Table, followVisit}
 use Rattle.theory.proofs.Count.{Inside, climb}
 use Rattle.theory.proofs.Fills.{Filling}
 use Rattle.theory.proofs.Follow.{follow-inside, follow-grows}
 use Rattle.grammar.specs.Flat.{Flat, denoted}
 use Rattle.grammar.specs.Well.{WellFormed}
 use Rattle.grammar.proofs.Denoted.{proper}
-use Rattle.rows.specs.Tables.{Sized, view, Became}
+use Rattle.rows.specs.Tables.{Sized, Became}
 use Rattle.rows.proofs.Tables.{view-inside, became-self, became-view, became-still}
 use Rattle.tables.specs.Sizes.{words}
 use Rattle.firsts.specs.Lent.{Lent as Firsts, marksOf}

@@ -1,21 +1,19 @@
 -- One production's step: what it asks of the walk, and what it leaves.
 use mathlib.Core.Bool.{Bool}
 use mathlib.Core.List.{List, _∷_}
-use mathlib.Core.Path.{_≡_, refl, sym, ap, _∙_, subst}
-use Prim.Native.Nat.{ℕ, zero, suc, _+_, _/_, _≤_, _<_}
+use mathlib.Core.Path.{_≡_, refl, sym, ap, _∙_}
+use Prim.Native.Nat.{ℕ, zero, suc, _≤_}
 use native.Mathlib.Omega.{arith}
 use lib.ListN.{length, take, replicate, length-replicate}
 use Rattle.theory.specs.Follow.{Mode}
 use Rattle.theory.specs.Visits.{followBack, followVisit}
 use Rattle.grammar.specs.Flat.{Flat, flat, ProdAt, form, denoted}
 use Rattle.grammar.proofs.Forms.{placed}
-use Rattle.rows.specs.Marks.{Fresh}
-use Rattle.rows.specs.Tables.{Sized, Became}
 use Rattle.tables.specs.Sizes.{words}
 use Rattle.firsts.specs.Lent.{Lent as Firsts, marksOf}
 use Rattle.firsts.proofs.Stepping.{fresh-not, walkable}
 use Rattle.follows.specs.Lent.{tableOf}
-use Rattle.follows.specs.Step.{New, Grown, Walkable, Ready, Steps}
+use Rattle.follows.specs.Step.{Grown, Walkable, Ready, Steps}
 
 -- the front of a row of zeros
 take-zeros : (n k : ℕ) → n ≤ k → _≡_ {A = List ℕ} (take n (replicate k 0)) (replicate n 0)

@@ -61,6 +61,7 @@ visitDue g n p l = unlessDue g (after (lentDue (g .rules) (length (g .costs)) n 
 abbrev pub begun : Flat → List ℕ
 begun g = marked (words (length (g .costs))) (replicate (g .rules * words (length (g .costs))) 0) 0 (length (g .costs) - 1)
 
+-- a clear leaves that
 pub record Clears (g : Flat) (said : Outcome (Unit {0})) (to : List ℕ) : Type 0 where
   pub done : said ≡ answers tt
   pub cleared : to ≡ begun g
@@ -80,6 +81,7 @@ pub record Ask : Type 0 where
   pub read : Firsts
   pub prod : ℕ
 
+-- the same of one grammar, mode, FIRST and EMPTY
 abbrev pub ask : Flat → ℕ → Firsts → ℕ → Ask
 ask g n read p = record { grammar = g; mode = n; read = read; prod = p }
 
@@ -104,13 +106,15 @@ pub record Fills (g : Flat) (n : ℕ) (said : Outcome (Unit {0})) (to : Lent) : 
   pub follow : Defined g mode (to .follow)
   pub read : FirstDefined g (to .read)
 
--- the promises
+-- the promise of `clear`, which is lent FOLLOW alone
 abbrev pub Clear : Flat → List ℕ → Filled → List ℕ → Type 0
 Clear g follow r follow′ = Call (clearDue g follow) (Clears g) follow (filledIs r) follow′
 
+-- the promise of `visit`, which only reads FIRST and EMPTY
 abbrev pub Visit : Flat → (mode prod : ℕ) → (follow first empty : List ℕ) → Visited → (follow′ : List ℕ) → Type 0
 Visit g n p follow first empty r follow′ = Call (visitDue g n p (lent follow (firsts first empty))) (Visits g n p (firsts first empty) follow) follow (visitedIs r) follow′
 
+-- the promise of `fill`, which is lent all three
 abbrev pub Fill : Flat → (mode : ℕ) → (follow first empty : List ℕ) → Filled → (follow′ first′ empty′ : List ℕ) → Type 0
 Fill g n follow first empty r follow′ first′ empty′ =
     Call (fillDue g n (lent follow (firsts first empty))) (Fills g n) (lent follow (firsts first empty)) (filledIs r) (lent follow′ (firsts first′ empty′))

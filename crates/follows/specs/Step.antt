@@ -6,12 +6,12 @@ use Prim.Native.Nat.{ℕ, _≤_, _<_}
 use lib.ListN.{length, replicate}
 use Rattle.theory.specs.Fills.{turns, Moves, Settles}
 use Rattle.theory.specs.Follow.{Mode, crate, corrected}
-use Rattle.theory.specs.Grammar.{Sym, rul, Form}
+use Rattle.theory.specs.Grammar.{rul, Form}
 use Rattle.theory.specs.Visits.{Table, Marks, nullable, aheadOf, followBack, followVisit}
 use Rattle.grammar.specs.Flat.{Flat, symbol, denoted}
 use Rattle.grammar.specs.Well.{WellFormed, SymbolFits}
 use Rattle.rows.specs.Marks.{mark, Fresh, Rows}
-use Rattle.rows.specs.Tables.{Sized, view, Became}
+use Rattle.rows.specs.Tables.{Sized, Became}
 use Rattle.tables.specs.Sizes.{words}
 use Rattle.firsts.specs.Lent.{Lent as Firsts, Held, marksOf}
 use Rattle.firsts.specs.Step.{Walkable as Forth, Ready as FirstReady}
@@ -46,6 +46,10 @@ pub record Puts (T o r : ℕ) (ahead follow : List ℕ) : Type 0 where
   pub few-tokens : T ≤ 512
   pub own : Rows T (words T) follow o follow r
   pub carried : Rows T (words T) ahead 0 follow r
+
+-- a row is as it was if it is to be kept, else zero
+pub record Kept (row : List ℕ) (kept : Bool) (to : List ℕ) : Type 0 where
+  pub left : to ≡ cond kept row (replicate (length row) 0)
 
 -- what carrying the row past rule r asks
 pub record Passable (R T r : ℕ) (read : Firsts) (ahead : List ℕ) : Type 0 where

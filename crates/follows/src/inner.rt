@@ -5,17 +5,17 @@ use tables::inner::row_wrong;
 use tables::inner::table_wrong;
 use tables::inner::turn_at;
 use tables::inner::words_for;
-ghost use mathlib.Core.Bool.{cond, _&&_, _||_};
+ghost use mathlib.Core.Bool.{_&&_, _||_};
 ghost use mathlib.Core.Path.{_≡_};
 ghost use Prim.Native.Nat.{_-_, _≤_, _<_};
 ghost use lib.ListN.{length, replicate};
 ghost use Rattle.theory.specs.Visits.{followBack};
 ghost use Rattle.grammar.specs.Flat.{flat, form};
-ghost use Rattle.rows.specs.Marks.{place, mark, marked, Raised};
+ghost use Rattle.rows.specs.Marks.{mark, marked, Raised};
 ghost use Rattle.tables.specs.Sizes.{words};
 ghost use Rattle.firsts.specs.Lent.{lent as firsts, marksOf};
 ghost use Rattle.follows.specs.Lent.{lent, tableOf};
-ghost use Rattle.follows.specs.Step.{kind, Grown, Puts, Passable, Passes, Turnable, Turns, Walkable, Ready, Steps, Begun, Rounds, Settled};
+ghost use Rattle.follows.specs.Step.{kind, Grown, Puts, Kept, Passable, Passes, Turnable, Turns, Walkable, Ready, Steps, Begun, Rounds, Settled};
 ghost use Rattle.follows.specs.Calls.{lentDue, numberIn};
 
 // The first of the refusals 7, for the three tables, and 8 that is due; 0 for none.
@@ -66,7 +66,7 @@ fn put(tokens: usize, owner: usize, r: usize, null: bool, ahead: &[u32], follow:
 
 // Sets a row to zero, unless it is to be kept.
 fn keep(row: &mut [u32], kept: bool)
-    ensures { λ _. ⌜ now (row .exit) ≡ cond kept (now (row .entry)) (replicate (length (now (row .entry))) 0) ⌝ }
+    ensures { λ _. ⌜ Kept (now (row .entry)) kept (now (row .exit)) ⌝ }
 {
     if kept {
         return;

@@ -4,3 +4,4 @@ pub mod Firsts
 pub mod Follows
 pub mod Costs
 pub mod Paths
+pub mod Sentence

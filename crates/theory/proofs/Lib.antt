@@ -13,3 +13,4 @@ pub mod CostRounds
 pub mod Paths
 pub mod Search
 pub mod Sentences
+pub mod Choices

@@ -14,3 +14,4 @@ pub mod Paths
 pub mod Search
 pub mod Sentences
 pub mod Choices
+pub mod Lengths

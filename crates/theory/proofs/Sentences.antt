@@ -1,5 +1,5 @@
 -- The sentence: there is at most one, a grounded form has it, it is derived, and it costs what COST says.
-use mathlib.Core.List.{List, [], _∷_, _++_, map}
+use mathlib.Core.List.{List, [], _∷_, _++_, map, append-nil, append-assoc}
 use mathlib.Core.Path.{_≡_, refl, sym, _∙_, ap, ap₂, subst}
 use Prim.Native.Nat.{ℕ, _+_, _≤_, _<_}
 use native.Mathlib.Decide.{decLt}
@@ -27,6 +27,15 @@ module _ {g : Grammar} {k : ℕ → ℕ} {c : Costs} where
   expands-one (etok t x) (etok t′ y) = ap (λ z. t ∷ z) (expands-one x y)
   expands-one (erul {u = u} {v = v} p ch x y e) (erul {u = u′} {v = v′} p′ ch′ x′ y′ e′) =
       e ∙ ap₂ _++_ (expands-one x (subst (λ z. Expands g k c (g .body z) u′) (choice-one ch′ ch) x′)) (expands-one y y′) ∙ sym e′
+
+  pub expands-append : {α β : Form} {u v : List ℕ} → Expands g k c α u → Expands g k c β v → Expands g k c (α ++ β) (u ++ v)
+  expands-append enil y = y
+  expands-append (etok t x) y = etok t (expands-append x y)
+  expands-append {v = v} (erul {u = a} {v = b} p d x z e) y = erul p d x (expands-append z y) (ap (λ w. w ++ v) e ∙ append-assoc a b v)
+
+  -- a rule expands as its first choice does
+  pub expands-choice : {r p : ℕ} {w : List ℕ} → Choice g k c r p → Expands g k c (g .body p) w → Expands g k c (rul r ∷ []) w
+  expands-choice {p = p} {w = w} d x = erul p d x enil (sym (append-nil w))
 
   -- a form is grounded exactly if it has a sentence by first choices
   pub grounded-expands : {α : Form} → Grounded g k c α → (w : List ℕ) × Expands g k c α w

@@ -15,3 +15,4 @@ pub mod Search
 pub mod Sentences
 pub mod Choices
 pub mod Lengths
+pub mod Levels

@@ -1,8 +1,8 @@
 -- The source's `min_sentence`: where it returns, and no production used has a rule followed by a symbol that writes, it returns 01's sentence.
 use mathlib.Core.Bool.{Bool, true, false, cond}
 use mathlib.Core.List.{List, [], _∷_, _++_, append-nil, append-assoc, nil≢cons, tail-eq-of-cons-eq, List·Memᴰ, List·Memᴰ·head, List·Memᴰ·tail}
-use mathlib.Core.Logic.{_⊎_, inl, inr}
-use mathlib.Core.Option.{Option, none, some, Option·some-injective, Option·none-ne-some}
+use mathlib.Core.Logic.{inl, inr}
+use mathlib.Core.Option.{some, Option·some-injective, Option·none-ne-some}
 use mathlib.Core.Path.{_≡_, refl, sym, _∙_, ap, ap₂, subst}
 use Prim.Native.Nat.{ℕ, zero, suc, _+_, _≤_, _<_}
 use native.Mathlib.Nat.{eq-or-lt-of-le, le-of-suc-le-suc}
@@ -17,8 +17,8 @@ use Rattle.theory.specs.Sentences.{Choice, Grounded, gnil, gtok, grul, Expands,
 use Rattle.theory.proofs.Cost.{cost-one}
 use Rattle.theory.proofs.Sentences.{choice-one, grounded-expands, owner-least, cost-owned}
 use Rattle.source.specs.Costs as Costs
-use Rattle.source.specs.Order.{rising, owned, rule-to-prods}
-use Rattle.source.specs.Sentence.{Low, unset, less, prod, prods, Cheapest, Entry, Symbols, over, token, rule, While, done, pop, Returns, Writes, Place, Uses, first, inner, NoPlace}
+use Rattle.source.specs.Order.{rising, owned}
+use Rattle.source.specs.Sentence.{Low, unset, prod, prods, Cheapest, Entry, Symbols, over, token, rule, While, done, pop, Returns, Writes, first, inner, NoPlace}
 use Rattle.source.proofs.Order.{prods-all}
 use Rattle.source.proofs.Costs.{costs-exact}
 

@@ -1,6 +1,6 @@
 -- First choices in one pass over the productions.
-use mathlib.Core.Bool.{Bool, true, false, not, _&&_, _||_, cond, false≢true, true≢false}
-use mathlib.Core.Logic.{_⊎_, inl, inr}
+use mathlib.Core.Bool.{Bool, true, false, not, _||_, cond, false≢true, true≢false}
+use mathlib.Core.Logic.{inl, inr}
 use mathlib.Core.Path.{_≡_, refl, sym, _∙_, ap}
 use Prim.Native.Nat.{ℕ, zero, suc, _≤_, _<_}
 use native.Mathlib.Nat.{not-suc-le-zero, eq-or-lt-of-le, le-of-suc-le-suc}
@@ -11,7 +11,7 @@ use Rattle.theory.specs.Grammar.{Grammar}
 use Rattle.theory.specs.Visits.{Costs, formCost}
 use Rattle.theory.specs.Tables.{Proper, CostExact}
 use Rattle.theory.specs.Sentences.{Choice}
-use Rattle.theory.specs.Levels.{Choices, suits, choiceVisit, noChoices, choicesBelow, Chosen}
+use Rattle.theory.specs.Levels.{Choices, suits, choicesBelow, Chosen}
 use Rattle.theory.proofs.Bools.{and-split, and-join, bool-eq}
 use Rattle.theory.proofs.Sentences.{choice-one, cost-owned}
 

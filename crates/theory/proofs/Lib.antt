@@ -16,3 +16,4 @@ pub mod Sentences
 pub mod Choices
 pub mod Lengths
 pub mod Levels
+pub mod Expanding

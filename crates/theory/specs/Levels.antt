@@ -5,7 +5,7 @@ use mathlib.Core.Path.{_≡_}
 use Prim.Native.Nat.{ℕ, zero, suc, _≤_, _<_, min}
 use lib.Dec.{eqb, leb}
 use lib.ListN.{length}
-use Rattle.theory.specs.Grammar.{Sym, tok, rul, Form, Grammar}
+use Rattle.theory.specs.Grammar.{tok, rul, Form, Grammar}
 use Rattle.theory.specs.Visits.{Row, Costs, formCost, allMarked}
 use Rattle.theory.specs.Sentences.{Choice, Grounded, Expands}
 

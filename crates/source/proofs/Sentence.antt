@@ -15,7 +15,7 @@ use Rattle.theory.specs.Visits.{Costs, formCost}
 use Rattle.theory.specs.Tables.{Proper, CostExact}
 use Rattle.theory.specs.Sentences.{Choice, Grounded, gnil, gtok, grul, Expands, enil, etok, erul}
 use Rattle.theory.proofs.Cost.{cost-one}
-use Rattle.theory.proofs.Sentences.{choice-one, grounded-expands, owner-least, cost-owned}
+use Rattle.theory.proofs.Sentences.{choice-one, expands-choice, grounded-expands, owner-least, cost-owned}
 use Rattle.source.specs.Costs as Costs
 use Rattle.source.specs.Order.{rising, owned}
 use Rattle.source.specs.Sentence.{Low, unset, prod, prods, Cheapest, Entry, Symbols, over, token, rule, While, done, pop, Returns, Writes, first, inner, NoPlace}
@@ -159,7 +159,7 @@ module _ (g : Grammar) (k : ℕ → ℕ) (ok : Proper g) {b c : Costs} (x : Cost
   silent h enil = refl
   silent {r} h (etok {α = α} t y) = absurd (h .place [] α r (tok t) refl (Writes.token t))
   silent {r} h (erul {r = q} {α = α} {u = []} {v = v} p d y z e) = e ∙ silent (clean-tail h) z
-  silent {r} h (erul {r = q} {α = α} {u = t ∷ u} {v = v} p d y z e) = absurd (h .place [] α r (rul q) refl (Writes.rule (erul p d y enil (sym (append-nil (t ∷ u))))))
+  silent {r} h (erul {r = q} {α = α} {u = t ∷ u} {v = v} p d y z e) = absurd (h .place [] α r (rul q) refl (Writes.rule (expands-choice d y)))
 
   -- one turn of the `while`
   record Turn (e : Entry) (st : List Entry) (s v : List ℕ) : Type 0 where
@@ -180,20 +180,17 @@ module _ (g : Grammar) (k : ℕ → ℕ) (ok : Proper g) {b c : Costs} (x : Cost
   written enil h p i e {st = st} {s = s} {v = v} over l = subst (λ z. While g k b st z v) (sym (append-nil s)) l
   written (etok {α = α} {w = w} t y) h p i e {st = st} {s = s} {v = v} (token n) l =
       subst (λ z. While g k b st z v) (append-assoc s (t ∷ []) w) (written y (clean-tail h) p (suc i) (drop-next i (g .body p) (tok t) α e) n l)
-  written (erul {r = r} {α = α} {u = u} {v = u′} {w = w} q d y z f) h p i e {st = st} {s = s} {v = v} (rule {q = q′} d′ n) l =
-      let nil = silent h z in
-      let out : w ≡ u = f ∙ ap (λ a. u ++ a) nil ∙ append-nil u in
-      let dn = drop-next i (g .body p) (rul r) α e in
-      let again : (o : List ℕ) → While g k b (record { pidx = p; sym-idx = suc i } ∷ st) o v → While g k b st o v = λ o a.
-      let a′ = turn a in
-      subst (λ m. While g k b st m v) (ap (λ m. o ++ m) nil ∙ append-nil o)
-      (written z (clean-tail h) p (suc i) dn (subst (λ m. Symbols g k b p (suc i) m st o (a′ .st′) (a′ .s′)) dn (a′ .symbols)) (a′ .rest)) in
-      let one = written z (clean-tail h) p (suc i) dn n l in
-      let two = turn (subst (λ m. While g k b (record { pidx = q′; sym-idx = 0 } ∷ record { pidx = p; sym-idx = suc i } ∷ st) m v) (ap (λ m. s ++ m) nil ∙ append-nil s) one) in
-      let eq = choice-one (cheapest-choice d′) d in
-      let three = written y (clean-choice d (h .inside r (List·Memᴰ·head refl))) q′ 0 (ap (g .body) eq)
-      (subst (λ m. Symbols g k b q′ 0 m (record { pidx = p; sym-idx = suc i } ∷ st) s (two .st′) (two .s′)) (ap (g .body) eq) (two .symbols)) (two .rest) in
-      subst (λ m. While g k b st (s ++ m) v) (sym out) (again (s ++ u) three)
+  written (erul {r = r} {α = α} {u = u} {v = u′} q d y z f) h p i e {st = st} {s = s} {v = v} (rule {q = q′} d′ n) l =
+      let back : Entry = record { pidx = p; sym-idx = suc i } in
+      let next = drop-next i (g .body p) (rul r) α e in
+      let body = ap (g .body) (choice-one (cheapest-choice d′) d) in
+      let still = ap (λ m. s ++ m) (silent h z) ∙ append-nil s in
+      let one = written z (clean-tail h) p (suc i) next n l in
+      let two = turn (subst (λ m. While g k b (record { pidx = q′; sym-idx = 0 } ∷ back ∷ st) m v) still one) in
+      let three = written y (clean-choice d (h .inside r (List·Memᴰ·head refl))) q′ 0 body (subst (λ m. Symbols g k b q′ 0 m (back ∷ st) s (two .st′) (two .s′)) body (two .symbols)) (two .rest) in
+      let four = turn three in
+      let five = written z (clean-tail h) p (suc i) next (subst (λ m. Symbols g k b p (suc i) m st (s ++ u) (four .st′) (four .s′)) next (four .symbols)) (four .rest) in
+      subst (λ m. While g k b st m v) (append-assoc s u u′ ∙ ap (λ m. s ++ m) (sym f)) five
 
   -- demand 2 for sentences: what `min_sentence` returns for r is the sentence of r
   pub sentence-same : {r : ℕ} {v : List ℕ} → Returns g k b r v → NoPlace g k c r → Expands g k c (rul r ∷ []) v
@@ -202,4 +199,4 @@ module _ (g : Grammar) (k : ℕ → ℕ) (ok : Proper g) {b c : Costs} (x : Cost
       let w = grounded-expands (while-grounded (y .loops) .0) in
       let t = turn (y .loops) in
       let l = written (w .1) (clean-choice d h) (y .pidx) 0 refl (t .symbols) (t .rest) in
-      erul (y .pidx) d (subst (λ z. Expands g k c (g .body (y .pidx)) z) (ended l) (w .1)) enil (sym (append-nil v))
+      expands-choice d (subst (λ z. Expands g k c (g .body (y .pidx)) z) (ended l) (w .1))

@@ -5,6 +5,7 @@ use mathlib.Core.Path.{_≡_}
 use Prim.Native.Nat.{ℕ, zero, suc, _≤_, _<_, min}
 use lib.Dec.{eqb, leb}
 use lib.ListN.{length}
+use Rattle.theory.specs.Below.{FirstBelow}
 use Rattle.theory.specs.Grammar.{tok, rul, Form, Grammar}
 use Rattle.theory.specs.Visits.{Row, Costs, formCost, allMarked}
 use Rattle.theory.specs.Sentences.{Choice, Grounded, Expands}
@@ -33,6 +34,10 @@ noChoices = record { has = λ r. false; prod = λ r. 0 }
 abbrev pub choicesBelow : Grammar → (ℕ → ℕ) → Costs → ℕ → Choices
 choicesBelow g k c zero = noChoices
 choicesBelow g k c (suc n) = choiceVisit g k c n (choicesBelow g k c n)
+
+-- the table holds the first of the productions below n that suits, for exactly the rules that have one
+abbrev pub ChosenBelow : Grammar → (ℕ → ℕ) → Costs → ℕ → Choices → Type 0
+ChosenBelow g k c n h = (r : ℕ) → FirstBelow (suits g k c r) n (h .has r) (h .prod r)
 
 -- the table holds each rule's first choice, for exactly the rules that have one
 pub record Chosen (g : Grammar) (k : ℕ → ℕ) (c : Costs) (h : Choices) : Type 0 where

@@ -18,7 +18,7 @@ use Rattle.theory.proofs.Cost.{cost-one}
 use Rattle.theory.proofs.Sentences.{choice-one, expands-choice, grounded-expands, owner-least, cost-owned}
 use Rattle.source.specs.Costs as Costs
 use Rattle.source.specs.Order.{rising, owned}
-use Rattle.source.specs.Sentence.{Low, unset, prod, prods, Cheapest, Entry, Symbols, over, token, rule, While, done, pop, Returns, Writes, first, inner, NoPlace}
+use Rattle.source.specs.Sentence.{Low, unset, prod, prods, Sums, Cheapest, Entry, Symbols, over, token, rule, While, done, pop, Returns, Writes, first, inner, NoPlace}
 use Rattle.source.proofs.Order.{prods-all}
 use Rattle.source.proofs.Costs.{costs-exact}
 
@@ -86,8 +86,31 @@ module _ (g : Grammar) (k : ℕ → ℕ) (c : Costs) (r : ℕ) where
     lowest = lowest;
   })
 
+  -- where r owns a production there is one
+  some-of : {j : ℕ} {l : Low} → j ≡ g .prods → Found j l → (q : ℕ) → q < g .prods → g .owner q ≡ r → (p : ℕ) × (l .idx ≡ some p)
+  some-of e (nothing h) q lt o = absurd (h q (omega arith) o)
+  some-of e (found p lt u least lowest) q m o = (p, refl)
+
   cheapest-best : (p : ℕ) → Cheapest g k c r p → Best p
   cheapest-best p x = best-of (omega arith) (found-all (g .prods) 0 unset (nothing (λ q lt u. absurd (omega arith)))) p (x .unwrap)
+
+-- `min_sentence` returns one sentence at most
+module _ {g : Grammar} {k : ℕ → ℕ} {c : Costs} where
+  cheapest-one : {r p q : ℕ} → Cheapest g k c r p → Cheapest g k c r q → p ≡ q
+  cheapest-one {p = p} {q = q} x y = Option·some-injective p q (sym (x .unwrap) ∙ y .unwrap)
+
+  while-after : {p i : ℕ} {α : Form} {st a b : List Entry} {s u w v : List ℕ} → Symbols g k c p i α st s a u → Symbols g k c p i α st s b w → While g k c a u v → While g k c b w v
+  while-after over over l = l
+  while-after (token x) (token y) l = while-after x y l
+  while-after {p} {i} {st = st} {a = a} {s = s} {u = u} (rule {α = α} d x) (rule e y) l =
+      while-after (subst (λ z. Symbols g k c p (suc i) α (record { pidx = z; sym-idx = 0 } ∷ record { pidx = p; sym-idx = suc i } ∷ st) s a u) (cheapest-one d e) x) y l
+
+  while-one : {st : List Entry} {s v w : List ℕ} → While g k c st s v → While g k c st s w → v ≡ w
+  while-one done done = refl
+  while-one (pop x l) (pop y m) = while-one l (while-after y x m)
+
+  pub returns-one : {r : ℕ} {v w : List ℕ} → Returns g k c r v → Returns g k c r w → v ≡ w
+  returns-one {w = w} x y = while-one (x .loops) (subst (λ z. While g k c (record { pidx = z; sym-idx = 0 } ∷ []) [] w) (cheapest-one (y .cheapest) (x .cheapest)) (y .loops))
 
 -- what is left after one symbol more
 drop-next : (i : ℕ) (α : Form) (y : Sym) (β : Form) → drop i α ≡ y ∷ β → drop (suc i) α ≡ β
@@ -161,14 +184,14 @@ module _ (g : Grammar) (k : ℕ → ℕ) (ok : Proper g) {b c : Costs} (x : Cost
   silent {r} h (erul {r = q} {α = α} {u = []} {v = v} p d y z e) = e ∙ silent (clean-tail h) z
   silent {r} h (erul {r = q} {α = α} {u = t ∷ u} {v = v} p d y z e) = absurd (h .place [] α r (rul q) refl (Writes.rule (expands-choice d y)))
 
-  -- one turn of the `while`
-  record Turn (e : Entry) (st : List Entry) (s v : List ℕ) : Type 0 where
+  -- the `for` over what is left of a production, and the turns after it
+  record Going (p i : ℕ) (α : Form) (st : List Entry) (s v : List ℕ) : Type 0 where
     st′ : List Entry
     s′ : List ℕ
-    symbols : Symbols g k b (e .pidx) (e .sym-idx) (drop (e .sym-idx) (g .body (e .pidx))) st s st′ s′
+    symbols : Symbols g k b p i α st s st′ s′
     rest : While g k b st′ s′ v
 
-  turn : {e : Entry} {st : List Entry} {s v : List ℕ} → While g k b (e ∷ st) s v → Turn e st s v
+  turn : {e : Entry} {st : List Entry} {s v : List ℕ} → While g k b (e ∷ st) s v → Going (e .pidx) (e .sym-idx) (drop (e .sym-idx) (g .body (e .pidx))) st s v
   turn (pop y z) = record { st′ = _; s′ = _; symbols = y; rest = z }
 
   ended : {s v : List ℕ} → While g k b [] s v → s ≡ v
@@ -200,3 +223,37 @@ module _ (g : Grammar) (k : ℕ → ℕ) (ok : Proper g) {b c : Costs} (x : Cost
       let t = turn (y .loops) in
       let l = written (w .1) (clean-choice d h) (y .pidx) 0 refl (t .symbols) (t .rest) in
       expands-choice d (subst (λ z. Expands g k c (g .body (y .pidx)) z) (ended l) (w .1))
+
+  -- where the sums fit, `cheapest_prod` returns the first choice of a rule that has one
+  choice-cheapest : {r p : ℕ} → Sums g k b r → Choice g k c r p → Cheapest g k b r p
+  choice-cheapest {r} {p} sums d =
+      let f = found-all g k b r (g .prods) 0 unset (nothing (λ q lt u. absurd (omega arith))) in
+      let o = some-of g k b r (omega arith) f p (d .isProd) (d .owns) in
+      let y : Cheapest g k b r (o .0) = record { sums = sums; unwrap = o .1 } in
+      subst (λ q. Cheapest g k b r q) (choice-one (cheapest-choice y) d) y
+
+  -- the other way: the turns that write a sentence
+  going : ((r : ℕ) → Sums g k b r) → {α : Form} {w : List ℕ} → Expands g k c α w → Clean α → (p i : ℕ) → drop i (g .body p) ≡ α → {st : List Entry} {s v : List ℕ}
+      → While g k b st (s ++ w) v → Going p i α st s v
+  going sums enil h p i e {st = st} {s = s} {v = v} l = record { st′ = st; s′ = s; symbols = over; rest = subst (λ m. While g k b st m v) (append-nil s) l }
+  going sums (etok {α = α} {w = w} t y) h p i e {st = st} {s = s} {v = v} l =
+      let o = going sums y (clean-tail h) p (suc i) (drop-next i (g .body p) (tok t) α e) (subst (λ m. While g k b st m v) (sym (append-assoc s (t ∷ []) w)) l) in
+      record { st′ = o .st′; s′ = o .s′; symbols = token (o .symbols); rest = o .rest }
+  going sums (erul {r = r} {α = α} {u = u} {v = u′} q d y z f) h p i e {st = st} {s = s} {v = v} l =
+      let back : Entry = record { pidx = p; sym-idx = suc i } in
+      let call : Entry = record { pidx = q; sym-idx = 0 } in
+      let next = drop-next i (g .body p) (rul r) α e in
+      let still = sym (ap (λ m. s ++ m) (silent h z) ∙ append-nil s) in
+      let five = going sums z (clean-tail h) p (suc i) next (subst (λ m. While g k b st m v) (ap (λ m. s ++ m) f ∙ sym (append-assoc s u u′)) l) in
+      let four : While g k b (back ∷ st) (s ++ u) v = pop (subst (λ m. Symbols g k b p (suc i) m st (s ++ u) (five .st′) (five .s′)) (sym next) (five .symbols)) (five .rest) in
+      let three = going sums y (clean-choice d (h .inside r (List·Memᴰ·head refl))) q 0 refl four in
+      let two : While g k b (call ∷ back ∷ st) s v = pop (three .symbols) (three .rest) in
+      let one = going sums z (clean-tail h) p (suc i) next (subst (λ m. While g k b (call ∷ back ∷ st) m v) still two) in
+      record { st′ = one .st′; s′ = one .s′; symbols = rule (choice-cheapest (sums r) d) (one .symbols); rest = one .rest }
+
+  -- and it returns wherever r has a sentence and no sum is above 65535
+  pub sentence-returns : {r : ℕ} {w : List ℕ} → ((q : ℕ) → Sums g k b q) → Expands g k c (rul r ∷ []) w → NoPlace g k c r → Returns g k b r w
+  sentence-returns {r} sums (erul p d y enil f) h =
+      let o = going sums y (clean-choice d h) p 0 refl done in
+      let l = pop (o .symbols) (o .rest) in
+      record { pidx = p; cheapest = choice-cheapest (sums r) d; loops = subst (λ m. While g k b (record { pidx = p; sym-idx = 0 } ∷ []) [] m) (sym (f ∙ append-nil _)) l }

@@ -14,7 +14,7 @@ use Rattle.theory.specs.Visits.{Costs, formCost, allMarked}
 use Rattle.theory.specs.Tables.{Proper, CostExact}
 use Rattle.theory.proofs.Bools.{and-split}
 use Rattle.theory.proofs.Cost.{cost-append, cost-one}
-use Rattle.theory.proofs.Yields.{Yields, nil, keep, open′, yields-append, derives→yields, by-prod, map-append, map-parts}
+use Rattle.theory.proofs.Yields.{Yields, nil, keep, open′, yields-append, derives→yields, by-prod, via, map-append, map-parts}
 use Rattle.source.specs.Costs.{State, start, Lowest, lower, prod, prods, put, settle, rule, Adds, Round, over, skip, work, Returns, all-done, again}
 use Rattle.source.specs.Order.{rule-to-prods, iter-rules}
 use Rattle.source.proofs.Order.{prods-in, prods-all}
@@ -83,18 +83,6 @@ record Sure (g : Grammar) (k : ℕ → ℕ) (s : State) : Type 0 where
   low : (r : ℕ) (w : List ℕ) → Sentence g r w → s .costs r ≤ costOf k w
   met : (r : ℕ) → s .done r ≡ true → Costing g k r (s .costs r)
   small : (r : ℕ) → s .costs r ≤ 65535
-
--- a sentence of r comes through a production of r
-via : (g : Grammar) (r : ℕ) (w : List ℕ) → Sentence g r w → (p : ℕ) × (p < g .prods) × (g .owner p ≡ r) × Yields g (g .body p) (map tok w)
-via g r w d = go (derives→yields d) refl
-  where
-    rul-not : (w : List ℕ) {β : Form} → _≡_ {A = Form} (rul r ∷ β) (map tok w) → ⊥
-    rul-not [] e = cons≢nil e
-    rul-not (t ∷ w) e = let h = head-eq-of-cons-eq e in let z : _≡_ {A = ℕ} 0 1 = cc in omega arith
-
-    go : {β : Form} → Yields g (rul r ∷ []) β → β ≡ map tok w → (p : ℕ) × (p < g .prods) × (g .owner p ≡ r) × Yields g (g .body p) (map tok w)
-    go (keep x y) e = absurd (rul-not w e)
-    go (open′ {γ = γ} p lt o b nil d) e = (p, lt, o, subst (λ z. Yields g (g .body p) z) (sym (append-nil γ) ∙ sym d ∙ e) b)
 
 module _ (g : Grammar) (k : ℕ → ℕ) (s : State) (i : Sure g k s) where
   form-low : {α β : Form} → Yields g α β → (w : List ℕ) → β ≡ map tok w → formCost k (s .costs) α ≤ costOf k w

@@ -13,3 +13,7 @@ pub mod CostRounds
 pub mod Paths
 pub mod Search
 pub mod Sentences
+pub mod Choices
+pub mod Lengths
+pub mod Levels
+pub mod Expanding

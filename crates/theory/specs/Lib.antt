@@ -8,3 +8,4 @@ pub mod Fills
 pub mod Tables
 pub mod Sentences
 pub mod Search
+pub mod Levels

@@ -214,13 +214,7 @@ fn say_entries(cost: &[u32; 2]) {
 }
 
 // Whether rules 0 and 1 are marked, as the mark query says.
-fn say_marks(
-    owners: &[u16],
-    starts: &[u16],
-    symbols: &[u16],
-    costs: &[u8],
-    productive: &[u32],
-) {
+fn say_marks(owners: &[u16], starts: &[u16], symbols: &[u16], costs: &[u8], productive: &[u32]) {
     let start = grammar::RIdx(0);
     say_asked(tables::is_rule_set(2, owners, starts, symbols, costs, productive, start));
     let a = grammar::RIdx(1);
@@ -262,7 +256,14 @@ fn g3_path(name: &[u8], from: u16, to: u16) {
 fn g3() {
     let mut cost = [0; 2];
     say(b"G3 fill:");
-    say_filled(costs::fill(2, &G3_OWNERS, &G3_STARTS, &G3_SYMBOLS, &TWO_COSTS, &mut cost));
+    say_filled(costs::fill(
+        2,
+        &G3_OWNERS,
+        &G3_STARTS,
+        &G3_SYMBOLS,
+        &TWO_COSTS,
+        &mut cost,
+    ));
     say(b"; costs:");
     say_entries(&cost);
     say(b"\n");
@@ -295,7 +296,15 @@ fn g5() {
 
 fn g6_clear(table: Table, words: &mut [u32]) {
     say(b" clear");
-    say_filled(clear(table, 2, &G6_OWNERS, &G6_STARTS, &G6_SYMBOLS, &THREE_COSTS, words));
+    say_filled(clear(
+        table,
+        2,
+        &G6_OWNERS,
+        &G6_STARTS,
+        &G6_SYMBOLS,
+        &THREE_COSTS,
+        words,
+    ));
     say(b";");
 }
 
@@ -446,10 +455,22 @@ fn productive_refusals() {
     refused(b"clear_productive, R 1:", t, Call::Clear, 1, 1);
     refused(b"visit_productive, short:", t, Call::Visit(2), 2, 0);
     refused(b"visit_productive, long:", t, Call::Visit(2), 2, 2);
-    refused(b"visit_productive, long, production P:", t, Call::Visit(3), 2, 2);
+    refused(
+        b"visit_productive, long, production P:",
+        t,
+        Call::Visit(3),
+        2,
+        2,
+    );
     refused(b"visit_productive, R 1, long:", t, Call::Visit(2), 1, 2);
     refused(b"visit_productive, production P:", t, Call::Visit(3), 2, 1);
-    refused(b"visit_productive, production 65535:", t, Call::Visit(65535), 2, 1);
+    refused(
+        b"visit_productive, production 65535:",
+        t,
+        Call::Visit(65535),
+        2,
+        1,
+    );
     refused(b"fill_productive, short:", t, Call::Fill, 2, 0);
     refused(b"fill_productive, long:", t, Call::Fill, 2, 2);
     refused(b"fill_productive, R 1:", t, Call::Fill, 1, 1);
@@ -585,7 +606,17 @@ fn rounds(
     let mut down = false;
     while n < 513 {
         n += 1;
-        let changed = round(table, rules, owners, starts, symbols, costs, prods, down, words);
+        let changed = round(
+            table,
+            rules,
+            owners,
+            starts,
+            symbols,
+            costs,
+            prods,
+            down,
+            words,
+        );
         if !changed {
             return n;
         }
@@ -594,7 +625,31 @@ fn rounds(
     n
 }
 
-// A clear and rounds of visits in one table, a fill in another; each word is then to be `word`.
+// A clear, and rounds of visits.
+fn by_visits(
+    table: Table,
+    owners: &[u16],
+    starts: &[u16],
+    symbols: &[u16],
+    prods: u16,
+    words: &mut [u32],
+) {
+    say(b" clear");
+    say_filled(clear(table, 512, owners, starts, symbols, &TWO_COSTS, words));
+    say(b", rounds");
+    say_number(rounds(
+        table,
+        512,
+        owners,
+        starts,
+        symbols,
+        &TWO_COSTS,
+        prods,
+        words,
+    ));
+}
+
+// One table by visits, another by a fill; each word is then to be `word`.
 fn settle(
     table: Table,
     owners: &[u16],
@@ -605,13 +660,14 @@ fn settle(
     filled: &mut [u32],
     word: u32,
 ) {
-    say(b" clear");
-    say_filled(clear(table, 512, owners, starts, symbols, &TWO_COSTS, words));
-    say(b", rounds");
-    say_number(rounds(table, 512, owners, starts, symbols, &TWO_COSTS, prods, words));
+    by_visits(table, owners, starts, symbols, prods, words);
     say(b", fill");
     say_filled(fill(table, 512, owners, starts, symbols, &TWO_COSTS, filled));
-    say_either(same_words(words, filled), b", same as fill", b", other than fill");
+    say_either(
+        same_words(words, filled),
+        b", same as fill",
+        b", other than fill",
+    );
     say_either(all_are(filled, word), b", all ", b", not all ");
     print(word);
     say(b"\n");
@@ -624,7 +680,16 @@ fn settle_both(name: &[u8], owners: &[u16], starts: &[u16], symbols: &[u16], pro
     let mut filled_row: [u32; 16] = [0; 16];
     say(name);
     say(b" PRODUCTIVE:");
-    settle(t, owners, starts, symbols, prods, &mut row, &mut filled_row, ONES);
+    settle(
+        t,
+        owners,
+        starts,
+        symbols,
+        prods,
+        &mut row,
+        &mut filled_row,
+        ONES,
+    );
     let c = Table::Cost;
     let mut cost: [u32; 512] = [0; 512];
     let mut filled: [u32; 512] = [0; 512];
@@ -638,10 +703,8 @@ fn count_up(list: &mut [u16], first: u16)
     requires { ⌜ first + length (now list) ≤ 65535 ⌝ }
 {
     let mut i: usize = 0;
-    let mut k = first;
     while i < list.len() {
-        list[i] = k;
-        k += 1;
+        list[i] = first + (i as u16);
         i += 1;
     }
 }
@@ -664,7 +727,8 @@ fn rising() {
     let mut symbols: [u16; 512] = [0; 512];
     count_up(&mut owners, 0);
     count_up(&mut starts, 0);
-    count_up(&mut symbols[..511], 32769);
+    count_up(&mut symbols, 32769);
+    symbols[511] = 0;
     settle_both(b"rising", &owners, &starts, &symbols, 512);
 }
 
@@ -675,20 +739,23 @@ fn falling() {
     let mut symbols: [u16; 512] = [0; 512];
     count_down(&mut owners, 511);
     count_up(&mut starts, 0);
-    count_down(&mut symbols[1..], 33279);
+    count_down(&mut symbols, 33280);
+    symbols[0] = 0;
     settle_both(b"falling", &owners, &starts, &symbols, 512);
 }
 
 // Production k is rule k's, and is rule k + 1; rule 511's is rule 1 again. Rule `way_out` has production 512
 // besides, token 0.
 fn ring(name: &[u8], way_out: u16) {
-    let mut owners: [u16; 513] = [way_out; 513];
+    let mut owners: [u16; 513] = [0; 513];
     let mut starts: [u16; 514] = [0; 514];
-    let mut symbols: [u16; 513] = [32769; 513];
-    symbols[512] = 0;
-    count_up(&mut owners[..512], 0);
+    let mut symbols: [u16; 513] = [0; 513];
+    count_up(&mut owners, 0);
+    owners[512] = way_out;
     count_up(&mut starts, 0);
-    count_up(&mut symbols[..511], 32769);
+    count_up(&mut symbols, 32769);
+    symbols[511] = 32769;
+    symbols[512] = 0;
     settle_both(name, &owners, &starts, &symbols, 513);
 }
 

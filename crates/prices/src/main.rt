@@ -1,7 +1,16 @@
-// Runs PRODUCTIVE's, COST's and has_path's calls over document 01's G3 to G6, single visits, refusals, and chains of
+// Runs PRODUCTIVE's, COST's and has_path's calls over document 01's G1 and G3 to G6, single visits, refusals, and chains of
 // 511 rules. What a line says of words is found by comparing them.
 ghost use Prim.Native.Nat.{_+_, _≤_, _<_};
 ghost use lib.ListN.{length};
+
+// G1, as the document has it.
+const G1_OWNERS: [u16; 6] = [1, 2, 2, 3, 3, 0];
+
+const G1_STARTS: [u16; 7] = [0, 3, 4, 4, 6, 6, 7];
+
+const G1_SYMBOLS: [u16; 7] = [32770, 0, 32771, 2, 1, 0, 32769];
+
+const FOUR_COSTS: [u8; 4] = [1; 4];
 
 // G3 to G6 have rules 0 start and 1 A; production 0 is the start's, A.
 // G3: A: A; A: a. Tokens: 0 a, 1 eof.
@@ -208,9 +217,21 @@ fn fill(
     }
 }
 
+fn say_word(word: u32) {
+    say(b" word");
+    say_number(word);
+    say(b"\n");
+}
+
 fn say_entries(cost: &[u32; 2]) {
     say_number(cost[0]);
     say_number(cost[1]);
+}
+
+fn say_costs(cost: &[u32; 2]) {
+    say(b" costs:");
+    say_entries(cost);
+    say(b"\n");
 }
 
 // Whether rules 0 and 1 are marked, as the mark query says.
@@ -221,7 +242,7 @@ fn say_marks(owners: &[u16], starts: &[u16], symbols: &[u16], costs: &[u8], prod
     say_asked(tables::is_rule_set(2, owners, starts, symbols, costs, productive, a));
 }
 
-// The cost query of A over tables that hold every mark and no cost but 0, and what it leaves in them.
+// The cost query of A, over a row of ones and numbers that are 0, and what it leaves in them.
 fn least(name: &[u8], owners: &[u16], starts: &[u16], symbols: &[u16], costs: &[u8]) {
     let mut productive = [ONES; 1];
     let mut cost = [0; 2];
@@ -240,9 +261,39 @@ fn least(name: &[u8], owners: &[u16], starts: &[u16], symbols: &[u16], costs: &[
     ));
     say(b"; productive:");
     say_marks(owners, starts, symbols, costs, &productive);
+    say(b";");
+    say_costs(&cost);
+}
+
+// Fills over zeros and over ones: Num has two rules in one production, Sign and Frac have an empty one.
+fn g1() {
+    let mut cost: [u32; 4] = [0; 4];
+    say(b"G1 fill:");
+    say_filled(costs::fill(
+        4,
+        &G1_OWNERS,
+        &G1_STARTS,
+        &G1_SYMBOLS,
+        &FOUR_COSTS,
+        &mut cost,
+    ));
     say(b"; costs:");
-    say_entries(&cost);
-    say(b"\n");
+    say_number(cost[0]);
+    say_number(cost[1]);
+    say_number(cost[2]);
+    say_number(cost[3]);
+    let mut row = [ONES; 1];
+    say(b"\nG1 fill_productive:");
+    say_filled(costs::fill_productive(
+        4,
+        &G1_OWNERS,
+        &G1_STARTS,
+        &G1_SYMBOLS,
+        &FOUR_COSTS,
+        &mut row,
+    ));
+    say(b";");
+    say_word(row[0]);
 }
 
 fn g3_path(name: &[u8], from: u16, to: u16) {
@@ -264,9 +315,8 @@ fn g3() {
         &TWO_COSTS,
         &mut cost,
     ));
-    say(b"; costs:");
-    say_entries(&cost);
-    say(b"\n");
+    say(b";");
+    say_costs(&cost);
     least(b"G3", &G3_OWNERS, &G3_STARTS, &G3_SYMBOLS, &TWO_COSTS);
     g3_path(b"G3 has_path 1 to 1:", 1, 1);
     g3_path(b"G3 has_path 0 to 0:", 0, 0);
@@ -334,20 +384,28 @@ fn g6_visits(table: Table, words: &mut [u32]) {
     g6_visit(table, 1, words);
 }
 
-// The same of both tables, then PRODUCTIVE where no mark and every spare bit is set.
+// What a clear leaves in each table.
+fn g6_cleared() {
+    let mut cost = [0; 2];
+    say(b"G6 COST:");
+    g6_clear(Table::Cost, &mut cost);
+    say_costs(&cost);
+    let mut row = [ONES; 1];
+    say(b"G6 PRODUCTIVE:");
+    g6_clear(Table::Productive, &mut row);
+    say_word(row[0]);
+}
+
+// Those visits of each table.
 fn g6() {
-    least(b"G6", &G6_OWNERS, &G6_STARTS, &G6_SYMBOLS, &THREE_COSTS);
     let mut cost = [0; 2];
     say(b"G6 COST:");
     g6_visits(Table::Cost, &mut cost);
-    say(b" costs:");
-    say_entries(&cost);
-    say(b"\nG6 PRODUCTIVE:");
+    say_costs(&cost);
+    say(b"G6 PRODUCTIVE:");
     let mut productive = [ONES; 1];
     g6_visits(Table::Productive, &mut productive);
-    say(b" word");
-    say_number(productive[0]);
-    say(b"\n");
+    say_word(productive[0]);
 }
 
 // Visits where the spare bits are set and no mark is, and a fill over every bit.
@@ -356,10 +414,9 @@ fn g6_spare() {
     say(b"G6 PRODUCTIVE, spare bits set:");
     g6_visit(Table::Productive, 1, &mut spare);
     g6_visit(Table::Productive, 2, &mut spare);
-    say(b" word");
-    say_number(spare[0]);
+    say_word(spare[0]);
     let mut ones = [ONES; 1];
-    say(b"\nG6 fill_productive over ones:");
+    say(b"G6 fill_productive over ones:");
     say_filled(costs::fill_productive(
         2,
         &G6_OWNERS,
@@ -368,9 +425,8 @@ fn g6_spare() {
         &THREE_COSTS,
         &mut ones,
     ));
-    say(b"; word");
-    say_number(ones[0]);
-    say(b"\n");
+    say(b";");
+    say_word(ones[0]);
 }
 
 // Three visits of COST from entries that are given.
@@ -382,9 +438,7 @@ fn g6_from(start: u32, a: u32, first: u16, second: u16, third: u16) {
     g6_visit(Table::Cost, first, &mut cost);
     g6_visit(Table::Cost, second, &mut cost);
     g6_visit(Table::Cost, third, &mut cost);
-    say(b" costs:");
-    say_entries(&cost);
-    say(b"\n");
+    say_costs(&cost);
 }
 
 // An entry above 65535 is not known in a sum, and is lowered as an owner's. The last ones are where a sum would
@@ -768,9 +822,12 @@ fn chains() {
 }
 
 fn main() {
+    g1();
     g3();
     least(b"G4", &G4_OWNERS, &G4_STARTS, &G4_SYMBOLS, &TWO_COSTS);
     g5();
+    least(b"G6", &G6_OWNERS, &G6_STARTS, &G6_SYMBOLS, &THREE_COSTS);
+    g6_cleared();
     g6();
     g6_spare();
     g6_entries();

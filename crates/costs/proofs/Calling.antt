@@ -10,12 +10,12 @@ use borrow.Author.Tests.{le-leb, lt-leb}
 use Rattle.theory.proofs.Bools.{or-none}
 use Rattle.grammar.specs.Flat.{Flat}
 use Rattle.grammar.specs.Outcome.{Outcome, answers, refused, unless}
-use Rattle.grammar.specs.Production.{checkedIs, checkOf, numberOf}
+use Rattle.grammar.specs.Production.{checkedIs, checkOf}
 use Rattle.grammar.specs.Refusals.{unlessDue}
 use Rattle.grammar.specs.Well.{WellFormed}
 use Rattle.grammar.specs.declared.Checked.{Checked}
-use Rattle.grammar.specs.declared.Checked.the-variants.{Well, Refused}
-use Rattle.grammar.proofs.Lowest.{after-well, after-refused}
+use Rattle.grammar.specs.declared.Checked.the-variants.{Well}
+use Rattle.grammar.proofs.Lowest.{after-well}
 use Rattle.grammar.proofs.Well.{well}
 use Rattle.rows.specs.Marks.{Small}
 use Rattle.tables.specs.Answers.{visitedIs, visitedOf}
@@ -27,10 +27,6 @@ use Rattle.tables.proofs.Calls.{call-refused, call-does, visited-is}
 use Rattle.costs.specs.Step.{RowReady, ProductiveBecame, CostReady, CostBecame}
 use Rattle.costs.specs.Defined.{RowFillable, CostFillable}
 use Rattle.costs.specs.Calls.{fillDue, visitDue, zeros, unknown}
-
--- a refused grammar
-pub refuses : {A M : Type 0} {Done : Outcome A → M → Type 0} {before : M} (g : Flat) (x : Outcome (Unit {0})) (c : Checked) → checkedIs c ≡ checkOf g → (n m : ℕ) → c ≡ Refused n → m ≡ numberOf c → Call (unlessDue g x) Done before (refused m) before
-refuses g x c is n m e q = rw (q, e) (call-refused n (after-refused g c _ n is e))
 
 -- one table, whose length `test` tests
 module _ (test : ℕ → List ℕ → Bool) (g : Flat) (ws : List ℕ) (c : Checked) (is : checkedIs c ≡ checkOf g) (e : c ≡ Well) (n : ℕ) (en : n ≡ g .rules) (x : Bool) (ex : x ≡ test n ws) where

@@ -15,10 +15,10 @@ use Rattle.theory.proofs.Bools.{and-split, and-join}
 use Rattle.grammar.specs.Flat.{Flat, flat, at, ProdAt, form, denoted, price}
 use Rattle.grammar.specs.Well.{WellFormed, SymbolFits}
 use Rattle.grammar.proofs.Forms.{prod-in, Placed, placed}
-use Rattle.rows.specs.Marks.{place, mark, marked, Raised, Fresh}
+use Rattle.rows.specs.Marks.{place, mark, marked, Raised}
 use Rattle.rows.specs.Tables.{Sized, rowView, RowBecame}
 use Rattle.rows.proofs.Marks.{row-in}
-use Rattle.rows.proofs.Raise.{raised-mark}
+use Rattle.rows.proofs.Raise.{fresh-not, raised-mark}
 use Rattle.rows.proofs.Row.{row-as, row-self, row-raised}
 use Rattle.tables.specs.Call.{Stepped}
 use Rattle.tables.specs.Sizes.{words}
@@ -70,9 +70,6 @@ module _ (rules : ℕ) (owners starts symbols costs : List ℕ) (p : ℕ) (row :
       module _ (k : not b ≡ false) (rd : ℕ) (got : Bool) (to : List ℕ) (er : rd ≡ words n) (eg : got ≡ not (mark rd row 0 o)) (et : to ≡ marked rd row 0 o) where
         raised : Raised rules (words rules) row to 0 (λ r. eqb r o) got
         raised = rw (eg, et, er, en) (raised-mark rules (words rules) row 0 o (omega arith) (ok .held .small) in-row (at-place .owner))
-
-        fresh-not : Fresh rules (words rules) row to 0 → to ≡ row → ⊥
-        fresh-not f q = false≢true (sym (f .was) ∙ ap (λ z. mark (words rules) z 0 (f .at)) (sym q) ∙ f .is)
 
         pub row-marks : Stepped (ProductiveBecame g p row) row got to
         row-marks = record {

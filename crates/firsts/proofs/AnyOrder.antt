@@ -15,8 +15,7 @@ use Rattle.grammar.specs.Flat.{Flat, denoted}
 use Rattle.grammar.specs.Outcome.{answers}
 use Rattle.grammar.specs.Well.{WellFormed}
 use Rattle.grammar.proofs.Denoted.{proper}
-use Rattle.rows.specs.Tables.{view, Became}
-use Rattle.rows.proofs.Tables.{became-self, became-as, cleared-mark}
+use Rattle.rows.proofs.Tables.{cleared-mark}
 use Rattle.source.specs.Firsts.{Returns}
 use Rattle.source.proofs.Firsts.{firsts-returns, firsts-exact}
 use Rattle.tables.specs.Sizes.{words}
@@ -24,10 +23,10 @@ use Rattle.tables.specs.Trace.{ask, Trace, Rounded, AtRest}
 use Rattle.tables.specs.declared.Filled.{Filled}
 use Rattle.tables.proofs.Asking.{table-right, row-right}
 use Rattle.tables.proofs.AnyOrder.{unless-not, goes, Steady, visits-spare, visits-hold, rest-exact, rounds-still}
+use Rattle.tables.proofs.Stepping.{steady}
 use Rattle.firsts.specs.Lent.{Lent, lent, Held, Spared, marksOf}
-use Rattle.firsts.specs.Step.{Steps}
 use Rattle.firsts.specs.Calls.{lentWrong, fillDue, visitDue, zeros, firstVisits, Defined, Fill}
-use Rattle.firsts.proofs.Moving.{spared-same, spared-then, steps-view, steps-spared}
+use Rattle.firsts.proofs.Moving.{stepping}
 use Rattle.firsts.proofs.Calling.{one-row, zeros-marks, zeros-held}
 use Rattle.firsts.proofs.Determined.{defined-one}
 
@@ -41,47 +40,26 @@ module _ (g : Flat) (w : WellFormed g) where
       let a = unless-not (lentWrong g l) 7 _ tt (sym (goes g w _) ∙ e) in
       leb-false (length (g .owners)) p (unless-not (leb (length (g .owners)) p) 11 (answers tt) tt (a .1) .0)
 
-  -- a step that leaves the marks leaves the words
-  same-steps : (p : ℕ) (l : Lent) → Held (g .rules) (length (g .costs)) l → firstVisit (denoted g) p (marksOf (g .rules) (length (g .costs)) l) ≡ marksOf (g .rules) (length (g .costs)) l → Steps g p l false l
-  unfolding marksOf
-  same-steps p l h e = record {
-    first = subst (λ z. Became (g .rules) (length (g .costs)) (words (length (g .costs))) (l .first) (l .first) z) (sym (ap (λ z. z .first) e)) (became-self (g .rules) (length (g .costs)) (words (length (g .costs))) (l .first) (h .first));
-    empty = became-as 1 (g .rules) (words (g .rules)) (l .empty) (l .empty) _ _ (λ q r lq lr. row q lq r) (became-self 1 (g .rules) (words (g .rules)) (l .empty) (h .empty));
-    told = λ k. absurd (false≢true k);
-    still = λ k. refl;
-  }
-    where
-      row : (q : ℕ) → q < 1 → (r : ℕ) → view 1 (g .rules) (words (g .rules)) (l .empty) q r ≡ firstVisit (denoted g) p (marksOf (g .rules) (length (g .costs)) l) .empty r
-      row zero lq r = sym (ap (λ z. z .empty r) e)
-      row (suc q) lq r = absurd (omega arith)
-
-  steady : Steady firstVisits (ask g) (firstVisit (denoted g)) (marksOf (g .rules) (length (g .costs))) (Spared (g .rules) (length (g .costs))) (length (g .owners)) (zeros g) firstCleared
-  steady = record {
-    Held = Held (g .rules) (length (g .costs));
-    prod = due-prod;
-    makes = λ p lt a b x d. steps-view g w p lt a (d .changed) b (d .steps);
-    spares = λ p lt a b x d. steps-spared g w p lt a (d .changed) b (d .steps);
-    same = spared-same (g .rules) (length (g .costs));
-    then = spared-then (g .rules) (length (g .costs));
-    holds = λ a b s. s .held;
-    due = λ p lt l h. goes g w _ ∙ rw (right l h, lt-leb (length (g .owners)) p lt);
-    still = λ p lt l h e. record { changed = false; told = refl; steps = same-steps p l h e };
-    begins = zeros-held g;
-    shows = zeros-marks g;
-  }
+  first-steady : Steady firstVisits (ask g) (firstVisit (denoted g)) (marksOf (g .rules) (length (g .costs))) (Spared (g .rules) (length (g .costs))) (length (g .owners)) (zeros g) firstCleared
+  first-steady = steady (stepping g w) firstVisits (ask g) (zeros g) firstCleared
+      (λ p a b x. refl)
+      due-prod
+      (λ p lt l h. goes g w _ ∙ rw (right l h, lt-leb (length (g .owners)) p lt))
+      (zeros-held g)
+      (zeros-marks g)
 
   module _ {ps : List ℕ} {l : Lent} (t : Trace firstVisits (ask g) ps (zeros g) l) where
     -- at every moment each mark held is true by derivation
     pub visits-true : FirstTrue (denoted g) (marksOf (g .rules) (length (g .costs)) l)
-    visits-true = visits-hold steady (first-any-order (denoted g) (proper g w)) t
+    visits-true = visits-hold first-steady (first-any-order (denoted g) (proper g w)) t
 
     -- tables that no visit would change are exactly the definitions'
     pub rest-defined : AtRest firstVisits (ask g) (length (g .owners)) l → Defined g l
     rest-defined h = record {
-      held = visits-spare steady t .held (zeros-held g);
-      exact = rest-exact steady (first-any-order (denoted g) (proper g w)) t h;
-      first-spare = λ r t₁ lr le lt. visits-spare steady t .first r t₁ lr le lt ∙ cleared-mark (words (length (g .costs))) (g .rules * words (length (g .costs))) r t₁;
-      empty-spare = λ r le lt. visits-spare steady t .empty r le lt ∙ cleared-mark (words (g .rules)) (words (g .rules)) 0 r;
+      held = visits-spare first-steady t .held (zeros-held g);
+      exact = rest-exact first-steady (first-any-order (denoted g) (proper g w)) t h;
+      first-spare = λ r t₁ lr le lt. visits-spare first-steady t .first r t₁ lr le lt ∙ cleared-mark (words (length (g .costs))) (g .rules * words (length (g .costs))) r t₁;
+      empty-spare = λ r le lt. visits-spare first-steady t .empty r le lt ∙ cleared-mark (words (g .rules)) (words (g .rules)) 0 r;
     }
 
   -- so all orders agree with each other, and with fill
@@ -90,12 +68,12 @@ module _ (g : Flat) (w : WellFormed g) where
 
   pub fill-agrees : {ps : List ℕ} {a : Lent} → Trace firstVisits (ask g) ps (zeros g) a → AtRest firstVisits (ask g) (length (g .owners)) a
       → (first empty f e : List ℕ) (r : Filled) → fillDue g (lent first empty) ≡ answers tt → Fill g first empty r f e → lent f e ≡ a
-  fill-agrees {a = a} s h first empty f e r d v = defined-one g (lent f e) a (v .does d .defined) (rest-defined s h)
+  fill-agrees {a = a} s h first empty f e r d v = defined-one g (lent f e) a (v .does d .left) (rest-defined s h)
 
   -- after R*T rounds in any order no visit changes the tables
   pub rounds-rest : (vs : List (List ℕ)) (l : Lent) → Rounded firstVisits (ask g) vs (zeros g) l → AllRounds (length (g .owners)) vs → g .rules * length (g .costs) ≤ length vs
       → AtRest firstVisits (ask g) (length (g .owners)) l
-  rounds-rest = rounds-still steady (first-any-order (denoted g) (proper g w))
+  rounds-rest = rounds-still first-steady (first-any-order (denoted g) (proper g w))
 
   -- the source's `YaccFirsts::new` returns, and its FIRST and epsilon bits are those that fill leaves
   pub source-returns : (t : Marks) × Returns (denoted g) firstCleared t

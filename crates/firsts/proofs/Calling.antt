@@ -13,25 +13,26 @@ use Rattle.theory.specs.Visits.{Marks, firstVisit, firstCleared}
 use Rattle.theory.proofs.Bools.{or-none}
 use Rattle.theory.proofs.First.{first-any-order}
 use Rattle.grammar.specs.Flat.{Flat, flat, denoted}
-use Rattle.grammar.specs.Outcome.{Outcome, answers, refused}
-use Rattle.grammar.specs.Production.{checkedIs, checkOf, numberOf}
+use Rattle.grammar.specs.Outcome.{Outcome, answers, refused, unless}
+use Rattle.grammar.specs.Production.{checkedIs, checkOf}
+use Rattle.grammar.specs.Refusals.{unlessDue}
 use Rattle.grammar.specs.Well.{WellFormed}
 use Rattle.grammar.specs.declared.Checked.{Checked}
-use Rattle.grammar.specs.declared.Checked.the-variants.{Well, Refused}
+use Rattle.grammar.specs.declared.Checked.the-variants.{Well}
 use Rattle.grammar.proofs.Denoted.{proper}
-use Rattle.grammar.proofs.Lowest.{after-well, after-refused}
+use Rattle.grammar.proofs.Lowest.{after-well}
 use Rattle.grammar.proofs.Well.{well}
 use Rattle.rows.specs.Marks.{mark, Small}
 use Rattle.rows.proofs.Tables.{cleared-mark, cleared-sized, cleared-row, cleared-view}
 use Rattle.tables.specs.Answers.{visitedIs, filledIs, visitedOf}
-use Rattle.tables.specs.Call.{Call}
+use Rattle.tables.specs.Call.{Call, Stepped, Visits, Leaves}
 use Rattle.tables.specs.Sizes.{words, tableWrong, rowWrong}
 use Rattle.tables.specs.declared.Visited.{Visited}
 use Rattle.tables.proofs.Asking.{table-long, row-long}
 use Rattle.tables.proofs.Calls.{call-refused, call-does, visited-is}
 use Rattle.firsts.specs.Lent.{Lent, lent, Held, Spared, marksOf}
-use Rattle.firsts.specs.Step.{Ready, Steps, Begun, Settled}
-use Rattle.firsts.specs.Calls.{lentWrong, fillDue, visitDue, zeros, Clears, Visits, Defined, Fills, Clear, Visit, Fill}
+use Rattle.firsts.specs.Step.{Ready, FirstBecame, Begun, Settled}
+use Rattle.firsts.specs.Calls.{lentWrong, fillDue, visitDue, zeros, Defined}
 use Rattle.firsts.proofs.Moving.{marks-same}
 
 pub one-row : (n : ℕ) → words n ≡ 1 * words n
@@ -75,31 +76,13 @@ module _ (g : Flat) (w : WellFormed g) where
     }
 
 module _ (g : Flat) (first empty : List ℕ) (c : Checked) (is : checkedIs c ≡ checkOf g) where
-  -- a refused grammar
-  module _ (n m : ℕ) (e : c ≡ Refused n) (q : m ≡ numberOf c) where
-    pub clear-refused : Call (fillDue g (lent first empty)) (Clears g) (lent first empty) (refused m) (lent first empty)
-    clear-refused = rw (q, e) (call-refused n (after-refused g c _ n is e))
-
-    pub fill-refused : Call (fillDue g (lent first empty)) (Fills g) (lent first empty) (refused m) (lent first empty)
-    fill-refused = rw (q, e) (call-refused n (after-refused g c _ n is e))
-
-    pub visit-refused : (p : ℕ) → Call (visitDue g p (lent first empty)) (Visits g p (lent first empty)) (lent first empty) (refused m) (lent first empty)
-    visit-refused p = rw (q, e) (call-refused n (after-refused g c _ n is e))
-
   module _ (e : c ≡ Well) (n : ℕ) (en : n ≡ g .rules) (x y : Bool) (ex : x ≡ tableWrong n (length (g .costs)) first) (ey : y ≡ rowWrong n empty) where
     wrong : (x || y) ≡ lentWrong g (lent first empty)
     wrong = rw (ex, ey, en)
 
     -- 7
-    module _ (k : (x || y) ≡ true) where
-      pub clear-7 : Call (fillDue g (lent first empty)) (Clears g) (lent first empty) (refused 7) (lent first empty)
-      clear-7 = call-refused 7 (after-well g c _ is e ∙ rw (← wrong, k))
-
-      pub fill-7 : Call (fillDue g (lent first empty)) (Fills g) (lent first empty) (refused 7) (lent first empty)
-      fill-7 = call-refused 7 (after-well g c _ is e ∙ rw (← wrong, k))
-
-      pub visit-7 : (p : ℕ) → Call (visitDue g p (lent first empty)) (Visits g p (lent first empty)) (lent first empty) (refused 7) (lent first empty)
-      visit-7 p = call-refused 7 (after-well g c _ is e ∙ rw (← wrong, k))
+    pub seven : {A : Type 0} {Done : Outcome A → Lent → Type 0} (y′ : Outcome (Unit {0})) → (x || y) ≡ true → Call (unlessDue g (unless (lentWrong g (lent first empty)) 7 y′)) Done (lent first empty) (refused 7) (lent first empty)
+    seven y′ k = call-refused 7 (after-well g c _ is e ∙ rw (← wrong, k))
 
     module _ (k : (x || y) ≡ false) where
       long-first : length first ≡ g .rules * words (length (g .costs))
@@ -119,8 +102,8 @@ module _ (g : Flat) (first empty : List ℕ) (c : Checked) (is : checkedIs c ≡
         cleared : lent f′ e′ ≡ zeros g
         cleared = zeros-cleared g first empty f′ e′ long-first long-empty cf ce
 
-        pub clear-does : Call (fillDue g (lent first empty)) (Clears g) (lent first empty) (answers tt) (lent f′ e′)
-        clear-does = call-does (answers tt) (lent f′ e′) fill-due (record { done = refl; cleared = cleared })
+        pub clear-does : Call (fillDue g (lent first empty)) (Leaves (λ l. l ≡ zeros g)) (lent first empty) (answers tt) (lent f′ e′)
+        clear-does = call-does (answers tt) (lent f′ e′) fill-due (record { done = refl; left = cleared })
 
         pub fill-begun : Begun g (lent f′ e′)
         fill-begun = subst (λ z. Begun g z) (sym cleared) (zeros-begun g formed)
@@ -130,12 +113,12 @@ module _ (g : Flat) (first empty : List ℕ) (c : Checked) (is : checkedIs c ≡
           defined : Defined g (lent f″ e″)
           defined = settled-defined g formed (lent f″ e″) (subst (λ z. Settled g z (lent f″ e″)) cleared s)
 
-          pub fill-does : Call (fillDue g (lent first empty)) (Fills g) (lent first empty) (answers tt) (lent f″ e″)
-          fill-does = call-does (answers tt) (lent f″ e″) fill-due (record { done = refl; defined = defined })
+          pub fill-does : Call (fillDue g (lent first empty)) (Leaves (Defined g)) (lent first empty) (answers tt) (lent f″ e″)
+          fill-does = call-does (answers tt) (lent f″ e″) fill-due (record { done = refl; left = defined })
 
       -- `visit`
       module _ (p q : ℕ) (eq : q ≡ p) where
-        pub visit-11 : length (g .owners) ≤ q → Call (visitDue g p (lent first empty)) (Visits g p (lent first empty)) (lent first empty) (refused 11) (lent first empty)
+        pub visit-11 : length (g .owners) ≤ q → Call (visitDue g p (lent first empty)) (Visits (FirstBecame g p (lent first empty)) (lent first empty)) (lent first empty) (refused 11) (lent first empty)
         visit-11 l = call-refused 11 (after-well g c _ is e ∙ rw (← wrong, k, le-leb (length (g .owners)) p (omega arith)))
 
         module _ (l : q < length (g .owners)) where
@@ -146,7 +129,7 @@ module _ (g : Flat) (first empty : List ℕ) (c : Checked) (is : checkedIs c ≡
             held = record { first = record { len = long-first; small = sf }; empty = record { len = long-empty ∙ one-row (g .rules); small = se } };
           }
 
-          pub visit-does : (changed : Bool) (r : Visited) (f′ e′ : List ℕ) → Steps g q (lent first empty) changed (lent f′ e′) → r ≡ visitedOf changed
-              → Call (visitDue g p (lent first empty)) (Visits g p (lent first empty)) (lent first empty) (visitedIs r) (lent f′ e′)
+          pub visit-does : (changed : Bool) (r : Visited) (f′ e′ : List ℕ) → Stepped (FirstBecame g q (lent first empty)) (lent first empty) changed (lent f′ e′) → r ≡ visitedOf changed
+              → Call (visitDue g p (lent first empty)) (Visits (FirstBecame g p (lent first empty)) (lent first empty)) (lent first empty) (visitedIs r) (lent f′ e′)
           visit-does changed r f′ e′ s h = call-does (visitedIs r) (lent f′ e′) (after-well g c _ is e ∙ rw (← wrong, k, lt-leb (length (g .owners)) p (omega arith)))
-              (record { changed = changed; told = visited-is changed r h; steps = subst (λ z. Steps g z (lent first empty) changed (lent f′ e′)) eq s })
+              (record { changed = changed; answer = visited-is changed r h; steps = subst (λ z. Stepped (FirstBecame g z (lent first empty)) (lent first empty) changed (lent f′ e′)) eq s })

@@ -9,7 +9,6 @@ use native.Mathlib.Omega.{arith}
 use lib.Dec.{eqb}
 use lib.ListN.{length}
 use borrow.Author.Tests.{eqb-true}
-use Rattle.theory.specs.Fills.{Moves}
 use Rattle.theory.specs.Visits.{Table, Marks, firstOf, nullable, firstVisit}
 use Rattle.theory.proofs.Bools.{and-split, or-split, bool-eq}
 use Rattle.theory.proofs.Count.{Inside, climb}
@@ -18,16 +17,22 @@ use Rattle.theory.proofs.First.{both, firstOf-all, first-marked}
 use Rattle.grammar.specs.Flat.{Flat, at, denoted}
 use Rattle.grammar.specs.Well.{WellFormed}
 use Rattle.grammar.proofs.Denoted.{proper}
-use Rattle.rows.specs.Marks.{mark}
-use Rattle.rows.specs.Tables.{Sized, view, Became}
-use Rattle.rows.proofs.Tables.{view-mark, view-inside, became-self, became-one, became-view, became-still, became-as}
+use Rattle.rows.specs.Tables.{Became, RowBecame}
+use Rattle.rows.proofs.Row.{row-inside, row-self, row-one, row-view}
+use Rattle.rows.proofs.Tables.{view-inside, became-self, became-one, became-view}
 use Rattle.tables.specs.Sizes.{words}
+use Rattle.tables.proofs.Stepping.{Stepping}
 use Rattle.firsts.specs.Lent.{Lent, lent, Held, Spared, marksOf}
-use Rattle.firsts.specs.Step.{Ready, Steps, Begun}
-use Rattle.firsts.proofs.Walking.{empty-mark}
+use Rattle.firsts.specs.Step.{FirstBecame, Begun}
 
 pub marks-same : (m n : Marks) → ((r t : ℕ) → m .first r t ≡ n .first r t) → ((r : ℕ) → m .empty r ≡ n .empty r) → m ≡ n
 marks-same m n f e i = record { first = fun-ext (λ r. fun-ext (λ t. f r t)) i; empty = fun-ext e i }
+
+-- one step leaves one result
+pub first-became-one : (g : Flat) (p : ℕ) (l a b : Lent) → FirstBecame g p l a → FirstBecame g p l b → a ≡ b
+first-became-one g p l a b s t = ap₂ lent
+    (became-one (g .rules) (length (g .costs)) (words (length (g .costs))) (l .first) (a .first) (b .first) _ (s .first) (t .first))
+    (row-one (g .rules) (words (g .rules)) (l .empty) (a .empty) (b .empty) _ (s .empty) (t .empty))
 
 -- the marks of words stand in R rows and T tokens
 module _ (R T : ℕ) (l : Lent) where
@@ -37,7 +42,7 @@ module _ (R T : ℕ) (l : Lent) where
 
   pub empty-in : (r : ℕ) → marksOf R T l .empty r ≡ true → r < R
   unfolding marksOf
-  empty-in r e = view-inside 1 R (words R) (l .empty) 0 r e .1
+  empty-in r e = row-inside R (words R) (l .empty) r e
 
 pub spared-same : (R T : ℕ) (a : Lent) → Spared R T a a
 spared-same R T a = record { held = λ h. h; first = λ r t lr le lt. refl; empty = λ r le lt. refl }
@@ -98,49 +103,38 @@ module _ (g : Flat) (w : WellFormed g) where
       | inr k ↦ subst (λ z. z < g .rules) (sym (eqb-true r _ (and-split _ _ k .0))) (w .owner p lt)
     ]
 
-    module _ (changed : Bool) (to : Lent) (s : Steps g p l changed to) where
-      view-first : (r t : ℕ) → marksOf (g .rules) (length (g .costs)) to .first r t ≡ firstVisit (denoted g) p m .first r t
-      unfolding marksOf
-      view-first r t = ap (λ z. z r t) (became-view (g .rules) (length (g .costs)) (words (length (g .costs))) (l .first) (to .first) _ visit-in (s .first))
+    -- the marks that the words become are the visit's
+    pub became-marks : (to : Lent) → FirstBecame g p l to → marksOf (g .rules) (length (g .costs)) to ≡ firstVisit (denoted g) p m
+    unfolding marksOf
+    became-marks to s = marks-same _ _
+        (λ r t. ap (λ z. z r t) (became-view (g .rules) (length (g .costs)) (words (length (g .costs))) (l .first) (to .first) _ visit-in (s .first)))
+        (λ r. ap (λ z. z r) (row-view (g .rules) (words (g .rules)) (l .empty) (to .empty) _ visit-empty-in (s .empty)))
 
-      view-empty : (r : ℕ) → marksOf (g .rules) (length (g .costs)) to .empty r ≡ firstVisit (denoted g) p m .empty r
-      view-empty r = bool-eq _ _
-          (λ e. let i = empty-in (g .rules) (length (g .costs)) to r e in sym (at-row r i) ∙ e)
-          (λ e. at-row r (visit-empty-in r e) ∙ e)
-        where
-          at-row : (r : ℕ) → r < g .rules → marksOf (g .rules) (length (g .costs)) to .empty r ≡ firstVisit (denoted g) p m .empty r
-          at-row r i = empty-mark (g .rules) (length (g .costs)) to r i ∙ s .empty .marks 0 r (omega arith) i
+    -- a step that leaves the marks leaves the words
+    pub became-same : Held (g .rules) (length (g .costs)) l → firstVisit (denoted g) p m ≡ m → FirstBecame g p l l
+    unfolding marksOf
+    became-same h e = record {
+      first = subst (λ z. Became (g .rules) (length (g .costs)) (words (length (g .costs))) (l .first) (l .first) z) (sym (ap (λ z. z .first) e)) (became-self (g .rules) (length (g .costs)) (words (length (g .costs))) (l .first) (h .first));
+      empty = subst (λ z. RowBecame (g .rules) (words (g .rules)) (l .empty) (l .empty) z) (sym (ap (λ z. z .empty) e)) (row-self (g .rules) (words (g .rules)) (l .empty) (h .empty));
+    }
 
-      -- the marks after the step are the visit's
-      pub steps-view : marksOf (g .rules) (length (g .costs)) to ≡ firstVisit (denoted g) p m
-      steps-view = marks-same _ _ view-first view-empty
+  pub became-spared : (p : ℕ) (l to : Lent) → FirstBecame g p l to → Spared (g .rules) (length (g .costs)) l to
+  became-spared p l to s = record {
+    held = λ h. record { first = s .first .sized; empty = s .empty .sized };
+    first = s .first .spare;
+    empty = λ r le lt. s .empty .spare 0 r (omega arith) le lt;
+  }
 
-      -- words whose marks stay stay
-      pub steps-still : Held (g .rules) (length (g .costs)) l → firstVisit (denoted g) p m ≡ m → to ≡ l
-      unfolding marksOf
-      steps-still h e = ap₂ lent
-          (became-still (g .rules) (length (g .costs)) (words (length (g .costs))) (l .first) (to .first) _ (h .first) (s .first) (ap (λ z. z .first) e))
-          (became-one 1 (g .rules) (words (g .rules)) (l .empty) (to .empty) (l .empty) _ (s .empty)
-          (became-as 1 (g .rules) (words (g .rules)) (l .empty) (l .empty) _ _ (λ q r lq lr. row q lq r) (became-self 1 (g .rules) (words (g .rules)) (l .empty) (h .empty))))
-        where
-          row : (q : ℕ) → q < 1 → (r : ℕ) → view 1 (g .rules) (words (g .rules)) (l .empty) q r ≡ firstVisit (denoted g) p m .empty r
-          row zero lq r = sym (ap (λ z. z .empty r) e)
-          row (suc q) lq r = absurd (omega arith)
-
-      pub steps-spared : Spared (g .rules) (length (g .costs)) l to
-      steps-spared = record {
-        held = λ h. record { first = s .first .sized; empty = s .empty .sized };
-        first = s .first .spare;
-        empty = λ r le lt. s .empty .spare 0 r (omega arith) le lt;
-      }
-
-      pub steps-moves : Held (g .rules) (length (g .costs)) l → Moves (firstVisit (denoted g)) (marksOf (g .rules) (length (g .costs))) (Spared (g .rules) (length (g .costs))) (p ∷ []) l changed to
-      steps-moves h = record {
-        ran = steps-view;
-        keeps = steps-spared;
-        told = λ t q. s .told t (steps-still h (sym steps-view ∙ q));
-        still = s .still;
-      }
+  -- FIRST and EMPTY on lent words, step by step
+  abbrev pub stepping : Stepping (firstVisit (denoted g)) (marksOf (g .rules) (length (g .costs))) (Spared (g .rules) (length (g .costs))) (length (g .owners)) (Held (g .rules) (length (g .costs))) (FirstBecame g)
+  stepping = record {
+    filling = filling;
+    held = λ a b s. s .held;
+    shows = λ p lt a b x. became-marks p lt a b x;
+    spares = λ p lt a b x. became-spared p a b x;
+    stays = λ p lt a h e. became-same p lt a h e;
+    unique = λ p a b d x y. first-became-one g p a b d x y;
+  }
 
 -- tables of their lengths keep them
 module _ {R T : ℕ} {a b : Lent} (h : Held R T a) (s : Spared R T a b) where

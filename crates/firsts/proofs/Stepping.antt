@@ -12,18 +12,16 @@ use Rattle.theory.proofs.Bools.{or-split, or-none}
 use Rattle.grammar.specs.Flat.{Flat, flat, at, ProdAt, form, denoted}
 use Rattle.grammar.specs.Well.{WellFormed}
 use Rattle.grammar.proofs.Forms.{prod-in, placed}
-use Rattle.rows.specs.Marks.{place, mark, marked, Raised, Fresh}
-use Rattle.rows.specs.Tables.{Sized, view, Became}
+use Rattle.rows.specs.Marks.{place, mark, marked, Raised}
+use Rattle.rows.specs.Tables.{Became, RowBecame}
 use Rattle.rows.proofs.Marks.{row-in}
-use Rattle.rows.proofs.Raise.{raised-mark}
-use Rattle.rows.proofs.Tables.{became-self, became-as, raised-became}
+use Rattle.rows.proofs.Raise.{fresh-not, raised-mark}
+use Rattle.rows.proofs.Row.{row-as, row-self, row-raised}
+use Rattle.rows.proofs.Tables.{raised-became}
+use Rattle.tables.specs.Call.{Stepped}
 use Rattle.tables.specs.Sizes.{words}
 use Rattle.firsts.specs.Lent.{Lent, lent, Held, marksOf}
-use Rattle.firsts.specs.Step.{Walkable, Walks, Ready, Steps}
-
--- a fresh mark is a change
-pub fresh-not : {T W : ℕ} {ws to : List ℕ} {o : ℕ} → Fresh T W ws to o → to ≡ ws → ⊥
-fresh-not {T} {W} {ws} {to} {o} f e = false≢true (sym (f .was) ∙ ap (λ z. mark W z o (f .at)) (sym e) ∙ f .is)
+use Rattle.firsts.specs.Step.{Walkable, Walks, Ready, FirstBecame}
 
 -- what production p's step asks of what it calls
 module _ (rules : ℕ) (owners starts symbols costs : List ℕ) (p : ℕ) (l : Lent) (ok : Ready (flat rules owners starts symbols costs) p l) where
@@ -63,23 +61,20 @@ module _ (g : Flat) (p : ℕ) (l : Lent) (ok : Ready g p l) (a e o : ℕ) (h : P
   unfolding form
   null = sym (w .passed ∙ rw (h .from, h .to))
 
-  -- EMPTY after the visit, of which only row 0 matters
-  row-zero : (f : ℕ → Bool) → ((r : ℕ) → r < g .rules → f r ≡ eqb r (at (g .owners) p) && past) → (q : ℕ) → q < 1 → (r : ℕ) → r < g .rules
-      → (view 1 (g .rules) (words (g .rules)) (l .empty) q r || f r) ≡ firstVisit (denoted g) p m .empty r
-  unfolding marksOf
-  row-zero f i zero lq r lr = rw (i r lr, null)
-  row-zero f i (suc q) lq r lr = absurd (omega arith)
+  -- EMPTY after the visit, where f is what it adds
+  empty-after : (f : ℕ → Bool) → ((r : ℕ) → f r ≡ eqb r (at (g .owners) p) && past) → (r : ℕ) → (m .empty r || f r) ≡ firstVisit (denoted g) p m .empty r
+  empty-after f i r = rw (i r, null)
 
   -- it did not pass the end: EMPTY is as it was
-  stays : past ≡ false → Became 1 (g .rules) (words (g .rules)) (l .empty) (l .empty) (λ _ r. firstVisit (denoted g) p m .empty r)
-  stays k = became-as 1 (g .rules) (words (g .rules)) (l .empty) (l .empty) _ _
-      (λ q r lq lr. sym (or-false (view 1 (g .rules) (words (g .rules)) (l .empty) q r)) ∙ row-zero (λ r. false) (λ r lr. sym (rw k (and-false (eqb r (at (g .owners) p))))) q lq r lr)
-      (became-self 1 (g .rules) (words (g .rules)) (l .empty) (ok .held .empty))
+  stays : past ≡ false → RowBecame (g .rules) (words (g .rules)) (l .empty) (l .empty) (firstVisit (denoted g) p m .empty)
+  unfolding marksOf
+  stays k = row-as (g .rules) (words (g .rules)) (l .empty) (l .empty) _ _
+      (λ r lr. sym (or-false (m .empty r)) ∙ empty-after (λ r. false) (λ r. sym (rw k (and-false (eqb r (at (g .owners) p))))) r)
+      (row-self (g .rules) (words (g .rules)) (l .empty) (ok .held .empty))
 
-  pub step-stay : past ≡ false → Steps g p l new (lent to (l .empty))
+  pub step-stay : past ≡ false → Stepped (FirstBecame g p l) l new (lent to (l .empty))
   step-stay k = record {
-    first = first-is;
-    empty = stays k;
+    became = record { first = first-is; empty = stays k };
     told = λ t q. fresh-not (w .raised .told t) (ap (λ z. z .first) q);
     still = λ t. ap (λ z. lent z (l .empty)) (w .raised .still t);
   }
@@ -93,19 +88,15 @@ module _ (g : Flat) (p : ℕ) (l : Lent) (ok : Ready g p l) (a e o : ℕ) (h : P
     raised = rw (eg, ee′, er) (raised-mark (g .rules) (words (g .rules)) (l .empty) 0 o (omega arith) (ok .held .empty .small)
         (row-in 1 (g .rules) (words (g .rules)) (l .empty) 0 o (omega arith) (ok .held .empty .len) (omega arith) owner) owner)
 
-    marks-it : Became 1 (g .rules) (words (g .rules)) (l .empty) empty (λ _ r. firstVisit (denoted g) p m .empty r)
-    marks-it = became-as 1 (g .rules) (words (g .rules)) (l .empty) empty _ _
-        (λ q r lq lr. own q lq r ∙ row-zero (λ r. eqb r o) (λ r lr. rw (h .owner, k) (sym (and-true (eqb r (at (g .owners) p))))) q lq r lr)
-        (raised-became 1 (g .rules) (words (g .rules)) (l .empty) empty 0 (λ r. eqb r o) got (omega arith) raised (ok .held .empty))
-      where
-        own : (q : ℕ) → q < 1 → (r : ℕ) → (view 1 (g .rules) (words (g .rules)) (l .empty) q r || (eqb q 0 && eqb r o)) ≡ (view 1 (g .rules) (words (g .rules)) (l .empty) q r || eqb r o)
-        own zero lq r = refl
-        own (suc q) lq r = absurd (omega arith)
+    marks-it : RowBecame (g .rules) (words (g .rules)) (l .empty) empty (firstVisit (denoted g) p m .empty)
+    unfolding marksOf
+    marks-it = row-as (g .rules) (words (g .rules)) (l .empty) empty _ _
+        (λ r lr. empty-after (λ r. eqb r o) (λ r. rw (h .owner, k) (sym (and-true (eqb r (at (g .owners) p))))) r)
+        (row-raised (g .rules) (words (g .rules)) (l .empty) empty (λ r. eqb r o) got (omega arith) raised (ok .held .empty))
 
-    pub step-past : Steps g p l (new || got) (lent to empty)
+    pub step-past : Stepped (FirstBecame g p l) l (new || got) (lent to empty)
     step-past = record {
-      first = first-is;
-      empty = marks-it;
+      became = record { first = first-is; empty = marks-it };
       told = λ t q. elim (or-split new got t) [ inl t ↦ fresh-not (w .raised .told t) (ap (λ z. z .first) q) | inr t ↦ fresh-not (raised .told t) (ap (λ z. z .empty) q) ];
       still = λ t. let s = or-none new got t in ap₂ lent (w .raised .still (s .0)) (raised .still (s .1));
     }
@@ -116,8 +107,8 @@ module _ (g : Flat) (p : ℕ) (l : Lent) (ok : Ready g p l) (n a e o : ℕ) (en 
   walked : Walks (g .rules) (length (g .costs)) (g .symbols) a e o l new past to
   walked = subst (λ z. Walks z (length (g .costs)) (g .symbols) a e o l new past to) en w
 
-  pub steps-stay : past ≡ false → Steps g p l new (lent to (l .empty))
+  pub steps-stay : past ≡ false → Stepped (FirstBecame g p l) l new (lent to (l .empty))
   steps-stay k = step-stay g p l ok a e o h new past to walked k
 
-  pub steps-past : past ≡ true → (rd : ℕ) (got : Bool) (empty : List ℕ) → rd ≡ words n → got ≡ not (mark rd (l .empty) 0 o) → empty ≡ marked rd (l .empty) 0 o → Steps g p l (new || got) (lent to empty)
+  pub steps-past : past ≡ true → (rd : ℕ) (got : Bool) (empty : List ℕ) → rd ≡ words n → got ≡ not (mark rd (l .empty) 0 o) → empty ≡ marked rd (l .empty) 0 o → Stepped (FirstBecame g p l) l (new || got) (lent to empty)
   steps-past k rd got empty er eg em = step-past g p l ok a e o h new past to walked k rd got empty (er ∙ ap words en) eg em

@@ -14,11 +14,11 @@ use Rattle.rows.specs.Marks.{mark}
 use Rattle.tables.specs.declared.Filled.{Filled}
 use Rattle.tables.specs.declared.Visited.{Visited}
 use Rattle.tables.specs.Answers.{visitedIs, filledIs}
-use Rattle.tables.specs.Call.{Call}
+use Rattle.tables.specs.Call.{Call, Visits, Leaves}
 use Rattle.tables.specs.Trace.{Ask, Kind}
 use Rattle.tables.specs.Sizes.{words, tableWrong, rowWrong}
 use Rattle.firsts.specs.Lent.{Lent, lent, Held, marksOf}
-use Rattle.firsts.specs.Step.{Steps}
+use Rattle.firsts.specs.Step.{FirstBecame}
 
 -- 7: a lent table is not of its exact length
 abbrev pub lentWrong : Flat → Lent → Bool
@@ -35,19 +35,9 @@ visitDue g p l = unlessDue g (unless (lentWrong g l) 7 (unless (leb (length (g .
 abbrev pub zeros : Flat → Lent
 zeros g = lent (replicate (g .rules * words (length (g .costs))) 0) (replicate (words (g .rules)) 0)
 
-pub record Clears (g : Flat) (said : Outcome (Unit {0})) (to : Lent) : Type 0 where
-  pub done : said ≡ answers tt
-  pub cleared : to ≡ zeros g
-
--- a visit answers whether a table changed, and makes its production's step
-pub record Visits (g : Flat) (p : ℕ) (l : Lent) (said : Outcome Bool) (to : Lent) : Type 0 where
-  pub changed : Bool
-  pub told : said ≡ answers changed
-  pub steps : Steps g p l changed to
-
 -- calls of `visit`, for lists of them
 abbrev pub firstVisits : Kind Ask Lent
-firstVisits = record { due = λ q l. visitDue (q .grammar) (q .prod) l; Does = λ q l. Visits (q .grammar) (q .prod) l }
+firstVisits = record { due = λ q l. visitDue (q .grammar) (q .prod) l; Does = λ q l. Visits (FirstBecame (q .grammar) (q .prod) l) l }
 
 -- the defined tables: each mark is there exactly if FIRST or EMPTY holds it, and spare bits are zero
 pub record Defined (g : Flat) (l : Lent) : Type 0 where
@@ -56,17 +46,12 @@ pub record Defined (g : Flat) (l : Lent) : Type 0 where
   pub first-spare : (r t : ℕ) → r < g .rules → length (g .costs) ≤ t → t < words (length (g .costs)) * 32 → mark (words (length (g .costs))) (l .first) r t ≡ false
   pub empty-spare : (r : ℕ) → g .rules ≤ r → r < words (g .rules) * 32 → mark (words (g .rules)) (l .empty) 0 r ≡ false
 
--- a fill leaves the defined tables, for any earlier contents
-pub record Fills (g : Flat) (said : Outcome (Unit {0})) (to : Lent) : Type 0 where
-  pub done : said ≡ answers tt
-  pub defined : Defined g to
-
--- the promises
+-- the promises: a clear leaves zeros, a visit makes its production's step, a fill leaves the defined tables for any earlier contents
 abbrev pub Clear : Flat → (first empty : List ℕ) → Filled → (first′ empty′ : List ℕ) → Type 0
-Clear g first empty r first′ empty′ = Call (fillDue g (lent first empty)) (Clears g) (lent first empty) (filledIs r) (lent first′ empty′)
+Clear g first empty r first′ empty′ = Call (fillDue g (lent first empty)) (Leaves (λ l. l ≡ zeros g)) (lent first empty) (filledIs r) (lent first′ empty′)
 
 abbrev pub Visit : Flat → ℕ → (first empty : List ℕ) → Visited → (first′ empty′ : List ℕ) → Type 0
-Visit g p first empty r first′ empty′ = Call (visitDue g p (lent first empty)) (Visits g p (lent first empty)) (lent first empty) (visitedIs r) (lent first′ empty′)
+Visit g p first empty r first′ empty′ = Call (visitDue g p (lent first empty)) (Visits (FirstBecame g p (lent first empty)) (lent first empty)) (lent first empty) (visitedIs r) (lent first′ empty′)
 
 abbrev pub Fill : Flat → (first empty : List ℕ) → Filled → (first′ empty′ : List ℕ) → Type 0
-Fill g first empty r first′ empty′ = Call (fillDue g (lent first empty)) (Fills g) (lent first empty) (filledIs r) (lent first′ empty′)
+Fill g first empty r first′ empty′ = Call (fillDue g (lent first empty)) (Leaves (Defined g)) (lent first empty) (filledIs r) (lent first′ empty′)

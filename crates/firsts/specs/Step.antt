@@ -9,7 +9,7 @@ use Rattle.theory.specs.Visits.{Marks, firstOf, nullable, firstVisit}
 use Rattle.grammar.specs.Flat.{Flat, at, form, denoted}
 use Rattle.grammar.specs.Well.{WellFormed, SymbolFits}
 use Rattle.rows.specs.Marks.{Raised}
-use Rattle.rows.specs.Tables.{Became}
+use Rattle.rows.specs.Tables.{Became, RowBecame}
 use Rattle.tables.specs.Sizes.{words}
 use Rattle.firsts.specs.Lent.{Lent, Held, Spared, marksOf}
 
@@ -34,12 +34,10 @@ pub record Ready (g : Flat) (p : ℕ) (l : Lent) : Type 0 where
   pub isProd : p < length (g .owners)
   pub held : Held (g .rules) (length (g .costs)) l
 
--- the tables become what the visit makes of their marks, spare bits are as they were, and `changed` tells whether a table changed
-pub record Steps (g : Flat) (p : ℕ) (l : Lent) (changed : Bool) (to : Lent) : Type 0 where
+-- the tables become what the visit makes of their marks, and spare bits are as they were
+pub record FirstBecame (g : Flat) (p : ℕ) (l to : Lent) : Type 0 where
   pub first : Became (g .rules) (length (g .costs)) (words (length (g .costs))) (l .first) (to .first) (firstVisit (denoted g) p (marksOf (g .rules) (length (g .costs)) l) .first)
-  pub empty : Became 1 (g .rules) (words (g .rules)) (l .empty) (to .empty) (λ _ r. firstVisit (denoted g) p (marksOf (g .rules) (length (g .costs)) l) .empty r)
-  pub told : changed ≡ true → to ≡ l → ⊥
-  pub still : changed ≡ false → to ≡ l
+  pub empty : RowBecame (g .rules) (words (g .rules)) (l .empty) (to .empty) (firstVisit (denoted g) p (marksOf (g .rules) (length (g .costs)) l) .empty)
 
 -- what a round asks: a well-formed grammar, tables of their lengths, and that no rule has a mark for eof
 pub record Begun (g : Flat) (l : Lent) : Type 0 where

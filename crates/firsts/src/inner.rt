@@ -6,8 +6,9 @@ use tables::inner::words_for;
 ghost use mathlib.Core.Path.{_≡_};
 ghost use lib.ListN.{length};
 ghost use Rattle.grammar.specs.Flat.{flat};
+ghost use Rattle.tables.specs.Call.{Stepped};
 ghost use Rattle.firsts.specs.Lent.{lent};
-ghost use Rattle.firsts.specs.Step.{Walkable, Walks, Ready, Steps, Begun, Rounds, Settled};
+ghost use Rattle.firsts.specs.Step.{Walkable, Walks, Ready, FirstBecame, Begun, Rounds, Settled};
 
 // What a walk found: whether a mark is new, and whether it passed the end.
 pub struct Walked {
@@ -72,7 +73,7 @@ pub fn step(
     empty: &mut [u32],
 ) -> bool
     requires { ⌜ Ready (flat rules (now owners) (now starts) (now symbols) (now costs)) p (lent (now first) (now empty)) ⌝ }
-    ensures { λ r. ⌜ Steps (flat rules (now (owners .entry)) (now (starts .entry)) (now (symbols .entry)) (now (costs .entry))) p (lent (now (first .entry)) (now (empty .entry))) r (lent (now (first .exit)) (now (empty .exit))) ⌝ }
+    ensures { λ r. ⌜ Stepped (FirstBecame (flat rules (now (owners .entry)) (now (starts .entry)) (now (symbols .entry)) (now (costs .entry))) p (lent (now (first .entry)) (now (empty .entry)))) (lent (now (first .entry)) (now (empty .entry))) r (lent (now (first .exit)) (now (empty .exit))) ⌝ }
 {
     let n = wide(rules);
     let q = prod_at(owners, starts, p);

@@ -11,7 +11,8 @@ use Rattle.grammar.specs.Flat.{Flat, flat, ProdAt, form, denoted}
 use Rattle.grammar.proofs.Forms.{placed}
 use Rattle.tables.specs.Sizes.{words}
 use Rattle.firsts.specs.Lent.{Lent as Firsts, marksOf}
-use Rattle.firsts.proofs.Stepping.{fresh-not, walkable}
+use Rattle.firsts.proofs.Stepping.{walkable}
+use Rattle.rows.proofs.Raise.{fresh-not}
 use Rattle.follows.specs.Lent.{tableOf}
 use Rattle.follows.specs.Step.{Grown, Walkable, Ready, Steps}
 

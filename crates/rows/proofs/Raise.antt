@@ -10,7 +10,7 @@ use lib.Dec.{eqb, ltb}
 use lib.ListN.{length}
 use borrow.Author.Tests.{lt-ltb, le-ltb, eq-eqb, ne-eqb, not-true, not-false}
 use Rattle.theory.proofs.Bools.{or-split, or-none}
-use Rattle.rows.specs.Marks.{place, mark, marked, Small, Raised}
+use Rattle.rows.specs.Marks.{place, mark, marked, Small, Fresh, Raised}
 use Rattle.rows.proofs.Marks.{mark-set, marked-long, marked-small, marked-same}
 
 twice : (m e l f g : Bool) → ((m || (e && (l && f))) || (e && (l && g))) ≡ (m || (e && (l && (f || g))))
@@ -32,6 +32,10 @@ cut-same T f h e t = go (decLt t T)
     go : Dec (t < T) → (ltb t T && f t) ≡ (ltb t T && h t)
     go (yes l) = rw (e t l)
     go (no n) = rw (le-ltb t T (omega arith))
+
+-- a fresh mark is a change
+pub fresh-not : {T W : ℕ} {ws to : List ℕ} {o : ℕ} → Fresh T W ws to o → to ≡ ws → ⊥
+fresh-not {T} {W} {ws} {to} {o} f e = false≢true (sym (f .was) ∙ ap (λ z. mark W z o (f .at)) (sym e) ∙ f .is)
 
 -- only the marks below T matter
 pub raised-as : {T W : ℕ} {ws to : List ℕ} {o : ℕ} {f : ℕ → Bool} {new : Bool} (h : ℕ → Bool) → ((t : ℕ) → t < T → f t ≡ h t) → Raised T W ws to o f new → Raised T W ws to o h new

@@ -5,7 +5,13 @@ use mathlib.Core.Path.{_≡_, refl, sym, _∙_, ap}
 use Prim.Native.Nat.{ℕ}
 use native.Mathlib.Omega.{arith}
 use Rattle.theory.proofs.Bools.{bool-eq}
+use Rattle.grammar.specs.Flat.{Flat}
 use Rattle.grammar.specs.Outcome.{Outcome, answers, refused}
+use Rattle.grammar.specs.Production.{checkedIs, checkOf, numberOf}
+use Rattle.grammar.specs.Refusals.{unlessDue}
+use Rattle.grammar.specs.declared.Checked.{Checked}
+use Rattle.grammar.specs.declared.Checked.the-variants.{Refused as Not}
+use Rattle.grammar.proofs.Lowest.{after-refused}
 use Rattle.tables.specs.declared.Asked.{Asked}
 use Rattle.tables.specs.declared.Asked.the-variants.{Yes, No, Refused as NotAsked}
 use Rattle.tables.specs.declared.Visited.{Visited}
@@ -36,6 +42,10 @@ module _ {A M : Type 0} {due : Outcome (Unit {0})} {Does : Outcome A → M → T
     keeps = λ n k. absurd (not-both (sym e ∙ k));
     does = λ k. d;
   }
+
+-- a call on a refused grammar
+pub refuses : {A M : Type 0} {Done : Outcome A → M → Type 0} {before : M} (g : Flat) (x : Outcome (Unit {0})) (c : Checked) → checkedIs c ≡ checkOf g → (n m : ℕ) → c ≡ Not n → m ≡ numberOf c → Call (unlessDue g x) Done before (refused m) before
+refuses g x c is n m e q = rw (q, e) (call-refused n (after-refused g c _ n is e))
 
 -- two results of a call
 pub record Both {A M : Type 0} (s t : Outcome A) (a b : M) : Type 0 where

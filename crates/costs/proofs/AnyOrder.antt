@@ -48,7 +48,8 @@ module _ (g : Flat) (w : WellFormed g) where
   -- PRODUCTIVE
   row-steady : Steady productiveVisits (ask g) (productiveVisit (denoted g)) (rowOf (g .rules)) (RowSpared (g .rules)) (length (g .owners)) (zeros g) productiveCleared
   row-steady = steady (rowStepping g w) productiveVisits (ask g) (zeros g) productiveCleared
-      (λ p a b x. refl)
+      (λ p a b x v. v)
+      (λ p a b x v. v)
       (λ p a e. due-prod p (rowWrong (g .rules) a) e)
       (λ p lt a h. visit-goes p lt (rowWrong (g .rules) a) (row-right (g .rules) a (h .len ∙ (let z : 1 * words (g .rules) ≡ words (g .rules) = omega arith in z))))
       (zeros-held g)
@@ -83,7 +84,8 @@ module _ (g : Flat) (w : WellFormed g) where
   -- COST
   cost-steady : Steady costVisits (ask g) (costVisit (denoted g) (price g)) costsOf Long (length (g .owners)) (unknown g) costCleared
   cost-steady = steady (costStepping g w) costVisits (ask g) (unknown g) costCleared
-      (λ p a b x. refl)
+      (λ p a b x v. v)
+      (λ p a b x v. v)
       (λ p a e. due-prod p (numbersWrong (g .rules) a) e)
       (λ p lt a h. visit-goes p lt (numbersWrong (g .rules) a) (numbers-right (g .rules) a h))
       (unknown-long g)

@@ -42,7 +42,8 @@ module _ (g : Flat) (w : WellFormed g) where
 
   first-steady : Steady firstVisits (ask g) (firstVisit (denoted g)) (marksOf (g .rules) (length (g .costs))) (Spared (g .rules) (length (g .costs))) (length (g .owners)) (zeros g) firstCleared
   first-steady = steady (stepping g w) firstVisits (ask g) (zeros g) firstCleared
-      (λ p a b x. refl)
+      (λ p a b x v. v)
+      (λ p a b x v. v)
       due-prod
       (λ p lt l h. goes g w _ ∙ rw (right l h, lt-leb (length (g .owners)) p lt))
       (zeros-held g)

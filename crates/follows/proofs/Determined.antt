@@ -15,12 +15,12 @@ use Rattle.rows.proofs.Tables.{same-words, view-mark, became-one}
 use Rattle.tables.specs.declared.Filled.{Filled}
 use Rattle.tables.specs.declared.Visited.{Visited}
 use Rattle.tables.specs.Sizes.{words}
-use Rattle.tables.proofs.Calls.{Both, call-one, visited-one, filled-one}
+use Rattle.tables.proofs.Calls.{call-one, visited-one, filled-one, visits-one, leaves-one}
 use Rattle.firsts.specs.Lent.{Lent as Firsts, lent as firsts}
 use Rattle.firsts.proofs.Determined.{defined-one as firsts-one}
 use Rattle.follows.specs.Lent.{Lent, lent}
-use Rattle.follows.specs.Step.{Steps}
-use Rattle.follows.specs.Calls.{modeOf, clearDue, fillDue, visitDue, Clears, Visits, Defined, Fills, Clear, Visit, Fill}
+use Rattle.follows.specs.Step.{FollowBecame}
+use Rattle.follows.specs.Calls.{modeOf, clearDue, fillDue, visitDue, Makes, Defined, Full, Clear, Visit, Fill}
 
 -- a number means one mode
 pub mode-one : (n : ℕ) {a b : Mode} → modeOf n ≡ answers a → modeOf n ≡ answers b → a ≡ b
@@ -29,13 +29,10 @@ mode-one n x y = apart (sym x ∙ y)
     apart : {a b : Mode} → _≡_ {A = Outcome Mode} (answers a) (answers b) → a ≡ b
     apart e = cc
 
--- one step leaves one result
-steps-left : (g : Flat) (mode : Mode) (p : ℕ) (read : Firsts) (follow : List ℕ) (x y : Bool) (a b : List ℕ) → Steps g mode p read follow x a → Steps g mode p read follow y b → a ≡ b
-steps-left g mode p read follow x y a b s t = became-one (g .rules) (length (g .costs)) (words (length (g .costs))) follow a b _ (s .became) (t .became)
-
-steps-said : (g : Flat) (mode : Mode) (p : ℕ) (read : Firsts) (follow : List ℕ) (x y : Bool) (a b : List ℕ) → Steps g mode p read follow x a → Steps g mode p read follow y b → x ≡ true → y ≡ true
-steps-said g mode p read follow x true a b s t e = refl
-steps-said g mode p read follow x false a b s t e = absurd (s .told e (steps-left g mode p read follow x false a b s t ∙ t .still refl))
+-- one visit leaves one result
+makes-one : (g : Flat) (n p : ℕ) (read : Firsts) (follow a b : List ℕ) → Makes g n p read follow a → Makes g n p read follow b → a ≡ b
+makes-one g n p read follow a b x y =
+    became-one (g .rules) (length (g .costs)) (words (length (g .costs))) follow a b _ (x .became) (subst (λ z. FollowBecame g z read p follow b) (mode-one n (y .means) (x .means)) (y .became))
 
 -- the defined table is one
 pub defined-one : (g : Flat) (mode : Mode) (a b : List ℕ) → Defined g mode a → Defined g mode b → a ≡ b
@@ -47,26 +44,10 @@ defined-one g mode a b x y = same-words (g .rules) (words (length (g .costs))) a
   | no l ↦ x .spare r t lr (omega arith) lt ∙ sym (y .spare r t lr (omega arith) lt)
 ])
 
-clears-one : (g : Flat) (s t : Outcome (Unit {0})) (a b : List ℕ) → Clears g s a → Clears g t b → Both s t a b
-clears-one g s t a b x y = record { said = x .done ∙ sym (y .done); left = x .cleared ∙ sym (y .cleared) }
-
-fills-one : (g : Flat) (n : ℕ) (s t : Outcome (Unit {0})) (a b : Lent) → Fills g n s a → Fills g n t b → Both s t a b
-fills-one g n s t a b x y = record {
-  said = x .done ∙ sym (y .done);
-  left = ap₂ lent
-      (defined-one g (x .mode) (a .follow) (b .follow) (x .follow) (subst (λ z. Defined g z (b .follow)) (mode-one n (y .means) (x .means)) (y .follow)))
-      (firsts-one g (a .read) (b .read) (x .read) (y .read));
-}
-
-visits-one : (g : Flat) (n p : ℕ) (read : Firsts) (follow : List ℕ) (s t : Outcome Bool) (a b : List ℕ) → Visits g n p read follow s a → Visits g n p read follow t b → Both s t a b
-visits-one g n p read follow s t a b x y =
-    let u : Steps g (x .mode) p read follow (y .changed) b = subst (λ z. Steps g z p read follow (y .changed) b) (mode-one n (y .means) (x .means)) (y .steps) in
-    record {
-      said = x .told
-          ∙ ap answers (bool-eq (x .changed) (y .changed) (steps-said g (x .mode) p read follow _ _ a b (x .steps) u) (steps-said g (x .mode) p read follow _ _ b a u (x .steps)))
-          ∙ sym (y .told);
-      left = steps-left g (x .mode) p read follow _ _ a b (x .steps) u;
-    }
+full-one : (g : Flat) (n : ℕ) (a b : Lent) → Full g n a → Full g n b → a ≡ b
+full-one g n a b x y = ap₂ lent
+    (defined-one g (x .mode) (a .follow) (b .follow) (x .follow) (subst (λ z. Defined g z (b .follow)) (mode-one n (y .means) (x .means)) (y .follow)))
+    (firsts-one g (a .read) (b .read) (x .read) (y .read))
 
 -- two results of a call: the answers and the words that it is lent to change are equal
 pub record Same {A M : Type 0} (r s : A) (a b : M) : Type 0 where
@@ -75,15 +56,15 @@ pub record Same {A M : Type 0} (r s : A) (a b : M) : Type 0 where
 
 module _ (g : Flat) (follow : List ℕ) {o o′ : List ℕ} where
   pub clear-one : {r s : Filled} → Clear g follow r o → Clear g follow s o′ → Same r s o o′
-  clear-one {r} {s} x y = let z = call-one (clears-one g) (clearDue g follow) x y in record { answer = filled-one r s (z .said); words = z .left }
+  clear-one {r} {s} x y = let z = call-one (leaves-one (λ u v p q. p ∙ sym q)) (clearDue g follow) x y in record { answer = filled-one r s (z .said); words = z .left }
 
   module _ (n : ℕ) (first empty : List ℕ) where
     pub visit-one : (p : ℕ) {r s : Visited} → Visit g n p follow first empty r o → Visit g n p follow first empty s o′ → Same r s o o′
     visit-one p {r} {s} x y =
-        let z = call-one (visits-one g n p (firsts first empty) follow) (visitDue g n p (lent follow (firsts first empty))) x y in
+        let z = call-one (visits-one (makes-one g n p (firsts first empty) follow)) (visitDue g n p (lent follow (firsts first empty))) x y in
         record { answer = visited-one r s (z .said); words = z .left }
 
     pub fill-one : {f e f′ e′ : List ℕ} {r s : Filled} → Fill g n follow first empty r o f e → Fill g n follow first empty s o′ f′ e′ → Same r s (lent o (firsts f e)) (lent o′ (firsts f′ e′))
     fill-one {r = r} {s = s} x y =
-        let z = call-one (fills-one g n) (fillDue g n (lent follow (firsts first empty))) x y in
+        let z = call-one (leaves-one (full-one g n)) (fillDue g n (lent follow (firsts first empty))) x y in
         record { answer = filled-one r s (z .said); words = z .left }

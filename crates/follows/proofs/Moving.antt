@@ -4,7 +4,6 @@ use mathlib.Core.List.{List, [], _∷_}
 use mathlib.Core.Path.{_≡_, refl, sym, _∙_, subst}
 use Prim.Native.Nat.{ℕ, _*_, _<_}
 use lib.ListN.{length}
-use Rattle.theory.specs.Fills.{Moves}
 use Rattle.theory.specs.Follow.{Mode}
 use Rattle.theory.specs.Visits.{Table, followVisit}
 use Rattle.theory.proofs.Count.{Inside, climb}
@@ -14,12 +13,13 @@ use Rattle.grammar.specs.Flat.{Flat, denoted}
 use Rattle.grammar.specs.Well.{WellFormed}
 use Rattle.grammar.proofs.Denoted.{proper}
 use Rattle.rows.specs.Tables.{Sized, Became}
-use Rattle.rows.proofs.Tables.{view-inside, became-self, became-view, became-still}
+use Rattle.rows.proofs.Tables.{view-inside, became-self, became-view, became-one}
 use Rattle.tables.specs.Sizes.{words}
+use Rattle.tables.proofs.Stepping.{Stepping}
 use Rattle.firsts.specs.Lent.{Lent as Firsts, marksOf}
 use Rattle.firsts.proofs.Moving.{first-in}
 use Rattle.follows.specs.Lent.{tableOf, Spared}
-use Rattle.follows.specs.Step.{Steps}
+use Rattle.follows.specs.Step.{FollowBecame}
 
 pub spared-same : (R T : ℕ) (a : List ℕ) → Spared R T a a
 spared-same R T a = record { held = λ h. h; spare = λ r t lr le lt. refl }
@@ -50,32 +50,15 @@ module _ (g : Flat) (w : WellFormed g) (mode : Mode) (read : Firsts) where
   pub words-in : (follow : List ℕ) → Inside (g .rules) (length (g .costs)) (tableOf (g .rules) (length (g .costs)) follow)
   words-in follow = view-inside (g .rules) (length (g .costs)) (words (length (g .costs))) follow
 
-  module _ (p : ℕ) (lt : p < length (g .owners)) (follow : List ℕ) where
-    abbrev visit : Table
-    visit = followVisit (denoted g) mode (marksOf (g .rules) (length (g .costs)) read) p (tableOf (g .rules) (length (g .costs)) follow)
-
-    -- a step that leaves the marks leaves the words
-    pub same-steps : Sized (g .rules) (words (length (g .costs))) follow → visit ≡ tableOf (g .rules) (length (g .costs)) follow → Steps g mode p read follow false follow
-    same-steps h e = record {
-      became = subst (λ z. Became (g .rules) (length (g .costs)) (words (length (g .costs))) follow follow z) (sym e) (became-self (g .rules) (length (g .costs)) (words (length (g .costs))) follow h);
-      told = λ k. absurd (false≢true k);
-      still = λ k. refl;
-    }
-
-    module _ (changed : Bool) (to : List ℕ) (s : Steps g mode p read follow changed to) where
-      -- the marks after the step are the visit's
-      pub steps-view : tableOf (g .rules) (length (g .costs)) to ≡ visit
-      steps-view = became-view (g .rules) (length (g .costs)) (words (length (g .costs))) follow to visit
-          (follow-inside (denoted g) (proper g w) mode (marksOf (g .rules) (length (g .costs)) read) (low (g .rules) (length (g .costs)) read) p lt _ (words-in follow)) (s .became)
-
-      pub steps-spared : Spared (g .rules) (length (g .costs)) follow to
-      steps-spared = record { held = λ h. s .became .sized; spare = s .became .spare }
-
-      pub steps-moves : Sized (g .rules) (words (length (g .costs))) follow
-          → Moves (followVisit (denoted g) mode (marksOf (g .rules) (length (g .costs)) read)) (tableOf (g .rules) (length (g .costs))) (Spared (g .rules) (length (g .costs))) (p ∷ []) follow changed to
-      steps-moves h = record {
-        ran = steps-view;
-        keeps = steps-spared;
-        told = λ t q. s .told t (became-still (g .rules) (length (g .costs)) (words (length (g .costs))) follow to visit h (s .became) (sym steps-view ∙ q));
-        still = s .still;
-      }
+  -- FOLLOW on lent words, step by step
+  abbrev pub stepping : Stepping (followVisit (denoted g) mode (marksOf (g .rules) (length (g .costs)) read)) (tableOf (g .rules) (length (g .costs))) (Spared (g .rules) (length (g .costs))) (length (g .owners))
+      (Sized (g .rules) (words (length (g .costs)))) (FollowBecame g mode read)
+  stepping = record {
+    filling = filling;
+    held = λ a b s. s .held;
+    shows = λ p lt a b x. became-view (g .rules) (length (g .costs)) (words (length (g .costs))) a b _
+        (follow-inside (denoted g) (proper g w) mode (marksOf (g .rules) (length (g .costs)) read) (low (g .rules) (length (g .costs)) read) p lt _ (words-in a)) x;
+    spares = λ p lt a b x. record { held = λ h. x .sized; spare = x .spare };
+    stays = λ p lt a h e. subst (λ z. Became (g .rules) (length (g .costs)) (words (length (g .costs))) a a z) (sym e) (became-self (g .rules) (length (g .costs)) (words (length (g .costs))) a h);
+    unique = λ p a b d x y. became-one (g .rules) (length (g .costs)) (words (length (g .costs))) a b d _ x y;
+  }

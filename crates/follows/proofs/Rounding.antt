@@ -3,20 +3,21 @@ use mathlib.Core.Bool.{Bool, true, false, cond, _||_}
 use mathlib.Core.List.{List}
 use mathlib.Core.Path.{_≡_, subst}
 use Prim.Native.Nat.{ℕ, _+_, _-_, _*_, _≤_, _<_}
-use native.Mathlib.Nat.{le-antisymm}
 use native.Mathlib.Omega.{arith}
 use lib.ListN.{length}
 use Rattle.theory.specs.Fills.{turn, turns, Moves}
 use Rattle.theory.specs.Follow.{Mode}
 use Rattle.theory.specs.Visits.{followVisit}
 use Rattle.theory.proofs.Count.{marks, climb}
-use Rattle.theory.proofs.Fills.{turned, moves-none, round-more, Settling, settling-start, settling-on, settling-end, settling-less, left}
+use Rattle.theory.proofs.Fills.{turned, Settling, left}
 use Rattle.theory.proofs.Follow.{follow-grows}
 use Rattle.grammar.specs.Flat.{Flat, denoted}
+use Rattle.tables.specs.Call.{Stepped}
+use Rattle.tables.proofs.Stepping.{round-start, round-on, round-end, settle-start, settle-on, settle-less, settle-end}
 use Rattle.firsts.specs.Lent.{Lent as Firsts, marksOf}
 use Rattle.follows.specs.Lent.{tableOf, Spared}
-use Rattle.follows.specs.Step.{Ready, Steps, Begun, Rounds, Settled}
-use Rattle.follows.proofs.Moving.{filling, words-in, steps-moves}
+use Rattle.follows.specs.Step.{Ready, FollowBecame, Begun, Rounds, Settled}
+use Rattle.follows.proofs.Moving.{words-in, stepping}
 
 -- the first i productions of a round have had their turn
 abbrev pub Turned : Flat → Mode → Firsts → Bool → ℕ → List ℕ → Bool → List ℕ → Type 0
@@ -36,38 +37,36 @@ leftOf R T follow changed = cond changed (R * T - marks R T (tableOf R T follow)
 
 module _ (g : Flat) (mode : Mode) (read : Firsts) (follow : List ℕ) (b : Begun g read follow) where
   module _ (down : Bool) where
-    pub round-start : Turned g mode read down 0 follow false follow
-    round-start = moves-none (filling g (b .well) mode read) follow
+    pub turn-start : Turned g mode read down 0 follow false follow
+    turn-start = round-start (stepping g (b .well) mode read) down follow (b .follows) (words-in g (b .well) mode read follow)
 
     module _ (i : ℕ) (x : Bool) (now : List ℕ) (m : Turned g mode read down i follow x now) where
-      pub round-ready : (p : ℕ) → i < length (g .owners) → p ≡ turn down (length (g .owners)) i → Ready g p read now
-      round-ready p lt e = record {
+      pub turn-ready : (p : ℕ) → i < length (g .owners) → p ≡ turn down (length (g .owners)) i → Ready g p read now
+      turn-ready p lt e = record {
         first = record { well = b .well; isProd = turned down (length (g .owners)) i p lt e; held = b .held };
         follows = m .keeps .held (b .follows);
       }
 
-      pub round-on : (p : ℕ) (y : Bool) (next : List ℕ) → i < length (g .owners) → p ≡ turn down (length (g .owners)) i → Steps g mode p read now y next → Turned g mode read down (i + 1) follow (x || y) next
-      round-on p y next lt e s =
-          round-more (filling g (b .well) mode read) down i p lt e (words-in g (b .well) mode read follow) m
-          (steps-moves g (b .well) mode read p (turned down (length (g .owners)) i p lt e) now y next s (m .keeps .held (b .follows)))
+      pub turn-on : (p : ℕ) (y : Bool) (next : List ℕ) → i < length (g .owners) → p ≡ turn down (length (g .owners)) i → Stepped (FollowBecame g mode read p now) now y next → Turned g mode read down (i + 1) follow (x || y) next
+      turn-on = round-on (stepping g (b .well) mode read) down follow (b .follows) (words-in g (b .well) mode read follow) i x now m
 
-      pub round-end : i ≤ length (g .owners) → length (g .owners) ≤ i → Rounds g mode read down follow x now
-      round-end lo hi = subst (λ n. Turned g mode read down n follow x now) (le-antisymm lo hi) m
+      pub turn-end : i ≤ length (g .owners) → length (g .owners) ≤ i → Rounds g mode read down follow x now
+      turn-end = round-end (stepping g (b .well) mode read) down follow (b .follows) (words-in g (b .well) mode read follow) i x now m
 
-  pub settle-start : Settle g mode read follow true follow
-  settle-start = settling-start (filling g (b .well) mode read) follow
+  pub follow-start : Settle g mode read follow true follow
+  follow-start = settle-start (stepping g (b .well) mode read) follow (b .follows) (words-in g (b .well) mode read follow)
 
   module _ (x : Bool) (now : List ℕ) (s : Settle g mode read follow x now) where
-    pub settle-begun : Begun g read now
-    settle-begun = record { well = b .well; held = b .held; follows = s .keeps .held (b .follows) }
+    pub follow-begun : Begun g read now
+    follow-begun = record { well = b .well; held = b .held; follows = s .keeps .held (b .follows) }
 
-    pub settle-end : x ≡ false → Settled g mode read follow now
-    settle-end e = settling-end (filling g (b .well) mode read) s e
+    pub follow-done : x ≡ false → Settled g mode read follow now
+    follow-done = settle-end (stepping g (b .well) mode read) follow (b .follows) (words-in g (b .well) mode read follow) x now s
 
     module _ (down y : Bool) (next : List ℕ) (m : Rounds g mode read down now y next) where
-      pub settle-on : Settle g mode read follow y next
-      settle-on = settling-on (filling g (b .well) mode read) down (words-in g (b .well) mode read follow) s m
+      pub follow-again : Settle g mode read follow y next
+      follow-again = settle-on (stepping g (b .well) mode read) follow (b .follows) (words-in g (b .well) mode read follow) x now s down y next m
 
-      pub settle-less : x ≡ true → leftOf (g .rules) (length (g .costs)) next y < leftOf (g .rules) (length (g .costs)) now x
+      pub follow-less : x ≡ true → leftOf (g .rules) (length (g .costs)) next y < leftOf (g .rules) (length (g .costs)) now x
       unfolding left climb follow-grows
-      settle-less e = settling-less (filling g (b .well) mode read) down (words-in g (b .well) mode read follow) s e m
+      follow-less e = settle-less (stepping g (b .well) mode read) follow (b .follows) (words-in g (b .well) mode read follow) x now s down y next m e

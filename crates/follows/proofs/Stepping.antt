@@ -9,12 +9,13 @@ use Rattle.theory.specs.Follow.{Mode}
 use Rattle.theory.specs.Visits.{followBack, followVisit}
 use Rattle.grammar.specs.Flat.{Flat, flat, ProdAt, form, denoted}
 use Rattle.grammar.proofs.Forms.{placed}
+use Rattle.tables.specs.Call.{Stepped}
 use Rattle.tables.specs.Sizes.{words}
 use Rattle.firsts.specs.Lent.{Lent as Firsts, marksOf}
 use Rattle.firsts.proofs.Stepping.{walkable}
 use Rattle.rows.proofs.Raise.{fresh-not}
 use Rattle.follows.specs.Lent.{tableOf}
-use Rattle.follows.specs.Step.{Grown, Walkable, Ready, Steps}
+use Rattle.follows.specs.Step.{Grown, Walkable, Ready, FollowBecame}
 
 -- the front of a row of zeros
 take-zeros : (n k : ℕ) → n ≤ k → _≡_ {A = List ℕ} (take n (replicate k 0)) (replicate n 0)
@@ -43,7 +44,7 @@ module _ (g : Flat) (p : ℕ) (read : Firsts) (follow : List ℕ) (ok : Ready g 
       (followVisit (denoted g) mode (marksOf (g .rules) (length (g .costs)) read) p (tableOf (g .rules) (length (g .costs)) follow)) new
   grown = let q = placed g (ok .first .well) p (ok .first .isProd) o a e h in rw (q .body, q .owns, ← en) x
 
-  pub step-done : Steps g mode p read follow new to
+  pub step-done : Stepped (FollowBecame g mode read p follow) follow new to
   step-done = record {
     became = grown .became;
     told = λ t q. fresh-not (grown .told t .fresh) q;

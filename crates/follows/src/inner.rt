@@ -12,10 +12,11 @@ ghost use lib.ListN.{length, replicate};
 ghost use Rattle.theory.specs.Visits.{followBack};
 ghost use Rattle.grammar.specs.Flat.{flat, form};
 ghost use Rattle.rows.specs.Marks.{mark, marked, Raised};
+ghost use Rattle.tables.specs.Call.{Stepped};
 ghost use Rattle.tables.specs.Sizes.{words};
 ghost use Rattle.firsts.specs.Lent.{lent as firsts, marksOf};
 ghost use Rattle.follows.specs.Lent.{lent, tableOf};
-ghost use Rattle.follows.specs.Step.{kind, Grown, Puts, Kept, Passable, Passes, Turnable, Turns, Walkable, Ready, Steps, Begun, Rounds, Settled};
+ghost use Rattle.follows.specs.Step.{kind, Grown, Puts, Kept, Passable, Passes, Turnable, Turns, Walkable, Ready, FollowBecame, Begun, Rounds, Settled};
 ghost use Rattle.follows.specs.Calls.{lentDue, numberIn};
 
 // The first of the refusals 7, for the three tables, and 8 that is due; 0 for none.
@@ -188,7 +189,7 @@ pub fn step(
     empty: &[u32],
 ) -> bool
     requires { ⌜ Ready (flat rules (now owners) (now starts) (now symbols) (now costs)) p (firsts (now first) (now empty)) (now follow) ⌝ }
-    ensures { λ r. ⌜ Steps (flat rules (now (owners .entry)) (now (starts .entry)) (now (symbols .entry)) (now (costs .entry))) (kind corrected) p (firsts (now (first .entry)) (now (empty .entry))) (now (follow .entry)) r (now (follow .exit)) ⌝ }
+    ensures { λ r. ⌜ Stepped (FollowBecame (flat rules (now (owners .entry)) (now (starts .entry)) (now (symbols .entry)) (now (costs .entry))) (kind corrected) (firsts (now (first .entry)) (now (empty .entry))) p (now (follow .entry))) (now (follow .entry)) r (now (follow .exit)) ⌝ }
 {
     let n = wide(rules);
     let t = costs.len();

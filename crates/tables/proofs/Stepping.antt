@@ -72,20 +72,21 @@ module _ {M S : Type 0} {step : ℕ → S → S} {view : M → S} {Keeps : M →
         pub settle-less : x ≡ true → left (k .filling) next y < left (k .filling) now x
         settle-less e = settling-less (k .filling) down inv s e m
 
-  -- its visits are steady
-  pub steady : {Q : Type 0} (d : Kind Q M) (asks : ℕ → Q) (zeros : M) (cleared : S) → ((p : ℕ) (a b : M) (x : Outcome Bool) → d .Does (asks p) a x b ≡ Visits (Became p a) a x b)
+  -- visits that make its steps are steady
+  pub steady : {Q : Type 0} (d : Kind Q M) (asks : ℕ → Q) (zeros : M) (cleared : S) → ((p : ℕ) (a b : M) (x : Outcome Bool) → d .Does (asks p) a x b → Visits (Became p a) a x b)
+      → ((p : ℕ) (a b : M) (x : Outcome Bool) → Visits (Became p a) a x b → d .Does (asks p) a x b)
       → ((p : ℕ) (a : M) → d .due (asks p) a ≡ answers tt → p < P) → ((p : ℕ) → p < P → (a : M) → Held a → d .due (asks p) a ≡ answers tt)
       → Held zeros → view zeros ≡ cleared → Steady d asks step view Keeps P zeros cleared
-  steady d asks zeros cleared does prod goes begins shown = record {
+  steady d asks zeros cleared out into prod goes begins shown = record {
     Held = Held;
     prod = prod;
-    makes = λ p lt a b x z. k .shows p lt a b (subst (λ T. T) (does p a b x) z .steps .became);
-    spares = λ p lt a b x z. k .spares p lt a b (subst (λ T. T) (does p a b x) z .steps .became);
+    makes = λ p lt a b x z. k .shows p lt a b (out p a b x z .steps .became);
+    spares = λ p lt a b x z. k .spares p lt a b (out p a b x z .steps .became);
     same = k .filling .same;
     then = k .filling .then;
     holds = k .held;
     due = goes;
-    still = λ p lt a h e. subst (λ T. T) (sym (does p a a (answers false))) (record { changed = false; answer = refl; steps = record { became = k .stays p lt a h e; told = λ t. absurd (false≢true t); still = λ t. refl } });
+    still = λ p lt a h e. into p a a (answers false) (record { changed = false; answer = refl; steps = record { became = k .stays p lt a h e; told = λ t. absurd (false≢true t); still = λ t. refl } });
     begins = begins;
     shows = shown;
   }

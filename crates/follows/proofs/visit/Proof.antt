@@ -1,6 +1,7 @@
 use borrow.Author.Needs.{needs}
 use Rattle.grammar.proofs.Callers.{few-rules, few-tokens}
-use Rattle.follows.proofs.Calling.{visit-refused, visit-wrong, visit-11, visit-ready, visit-does}
+use Rattle.tables.proofs.Calls.{refuses}
+use Rattle.follows.proofs.Calling.{visit-wrong, visit-11, visit-ready, visit-does}
 use Rattle.follows.proofs.visit.Statement.{statement}
 use Rattle.follows.proofs.visit.Tie as tie
 
@@ -17,7 +18,7 @@ number-requires : tie.Need-number-requires
 number-requires c κs = search needs
 
 returns : tie.Need-returns
-returns c = search (needs, visit-refused)
+returns c = search (needs, refuses)
 
 wide-requires : tie.Need-wide-requires
 wide-requires c κs = search needs

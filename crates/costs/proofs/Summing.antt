@@ -12,7 +12,7 @@ use Rattle.costs.specs.Lent.{costsOf, symbolCost, sumOf}
 use Rattle.costs.specs.Step.{SymbolPriced, Pricing}
 
 -- inside the list an entry is the number that stands there
-default-same : (ws : List ℕ) (r d e : ℕ) → r < length ws → getD ws r d ≡ getD ws r e
+pub default-same : (ws : List ℕ) (r d e : ℕ) → r < length ws → getD ws r d ≡ getD ws r e
 default-same [] r d e l = absurd (omega arith)
 default-same (w ∷ ws) zero d e l = refl
 default-same (w ∷ ws) (suc r) d e l = default-same ws r d e (omega arith)

@@ -1,0 +1,4 @@
+pub mod Lent
+pub mod Choosing
+pub mod Measuring
+pub mod Expanding

@@ -1,0 +1,2 @@
+// The cheapest sentence.
+pub mod inner;

@@ -1,3 +1,4 @@
 pub mod Choosing
 pub mod Counting
 pub mod Measuring
+pub mod Expanding

@@ -1,0 +1,198 @@
+-- What the finished tables say of a rule: 12 to 15, or its sentence.
+use mathlib.Core.Bool.{Bool, true, false, not, _||_, true≢false}
+use mathlib.Core.List.{List, [], _∷_, _++_}
+use mathlib.Core.Logic.{_⊎_, inl, inr}
+use mathlib.Core.Path.{_≡_, refl, sym, ap, _∙_, subst}
+use Prim.Native.Nat.{ℕ, _+_, _≤_, _<_}
+use native.Mathlib.Decide.{decLe}
+use native.Mathlib.Omega.{arith}
+use lib.Dec.{ltb}
+use lib.ListN.{length, drop}
+use lib.Seq.{sets, sets-eq}
+use borrow.Author.Tests.{ltb-true, lt-ltb, not-true, not-false}
+use Rattle.theory.specs.Definitions.{Productive, Cost}
+use Rattle.theory.specs.Grammar.{rul}
+use Rattle.theory.specs.Levels.{Length, within, expanded}
+use Rattle.theory.specs.Sentences.{Grounded, Expands, erul}
+use Rattle.theory.proofs.Bools.{or-none, or-split}
+use Rattle.theory.proofs.Cost.{cost-one}
+use Rattle.theory.proofs.Expanding.{expands-expanded, expanded-empty, expanded-length, known-within}
+use Rattle.theory.proofs.Lengths.{length-grounded, grounded-length, length-sentence, length-long}
+use Rattle.theory.proofs.Sentences.{expands-grounded, sentence-of}
+use Rattle.grammar.specs.Flat.{Flat, at, denoted, price}
+use Rattle.grammar.specs.Outcome.{Outcome, answers, refused}
+use Rattle.grammar.proofs.Denoted.{proper}
+use Rattle.rows.specs.Marks.{place, mark}
+use Rattle.rows.proofs.Marks.{row-in}
+use Rattle.rows.proofs.Row.{row-mark}
+use Rattle.tables.specs.Sizes.{words}
+use Rattle.costs.specs.Lent.{costsOf}
+use Rattle.costs.proofs.Summing.{entry}
+use Rattle.sentences.specs.Lent.{choicesOf, lengthsOf}
+use Rattle.sentences.specs.Expanding.{Led, RuleReady, Wrote}
+use Rattle.sentences.specs.Query.{Refuses, Writes, Says}
+use Rattle.sentences.specs.Working.{Worked, Finished}
+use Rattle.sentences.proofs.Counting.{length-entry}
+
+-- by its own table a rule with a sentence by first choices has a cost
+expands-priced : (g : Flat) (c : ℕ → ℕ) (r : ℕ) {w : List ℕ} → Expands (denoted g) (price g) c (rul r ∷ []) w → c r ≤ 65535
+expands-priced g c r (erul p d x y e) = d .priced
+
+kept : (n : ℕ) (out : List ℕ) → Refuses n out (refused n) out
+kept n out = record { number = refl; kept = refl }
+
+module _ (g : Flat) (r : ℕ) (row cost choice lengths out : List ℕ) (ok : Finished g r row cost choice lengths) where
+  abbrev m : Bool
+  m = mark (words (g .rules)) row 0 r
+
+  abbrev c : ℕ → ℕ
+  c = costsOf cost
+
+  abbrev l : ℕ
+  l = lengthsOf lengths r
+
+  marks : m ≡ true → Productive (denoted g) r
+  marks e = ok .worked .marks .exact r .1 (row-mark (g .rules) (words (g .rules)) row r (ok .isRule) ∙ e)
+
+  marked : Productive (denoted g) r → m ≡ true
+  marked h = sym (row-mark (g .rules) (words (g .rules)) row r (ok .isRule)) ∙ ok .worked .marks .exact r .0 h
+
+  costs-it : Cost (denoted g) (price g) r (c r)
+  costs-it = ok .worked .prices .exact r
+
+  is-entry : (n : ℕ) → Cost (denoted g) (price g) r n → n ≡ c r
+  is-entry n d = cost-one d costs-it
+
+  least : (n : ℕ) → n ≤ 65535 → Cost (denoted g) (price g) r n → Productive (denoted g) r
+  least n le d = let w = d .met le in (w .0, w .1)
+
+  long-it : Length (denoted g) (price g) c r l
+  long-it = ok .worked .counts .exact r
+
+  known : {w : List ℕ} → Expands (denoted g) (price g) c (rul r ∷ []) w → l ≤ 65536
+  known x = grounded-length long-it (expands-grounded x)
+
+  pub says-12 : m ≡ false → Says g c r out (refused 12) out
+  says-12 e = record {
+    none = λ h. kept 12 out;
+    dear = λ h s. absurd (true≢false (sym (marked h) ∙ e));
+    circular = λ n le d h. absurd (true≢false (sym (marked (least n le d)) ∙ e));
+    long = λ w x h. absurd (true≢false (sym (marked (w, sentence-of x .0)) ∙ e));
+    is = λ w x a b. absurd (true≢false (sym (marked (w, sentence-of x .0)) ∙ e));
+  }
+
+  module _ (e : m ≡ true) where
+    pub says-13 : 65535 < c r → Says g c r out (refused 13) out
+    says-13 lt = record {
+      none = λ h. absurd (h (marks e));
+      dear = λ h s. kept 13 out;
+      circular = λ n le d h. absurd (omega (arith, is-entry n d));
+      long = λ w x h. absurd (omega (arith, expands-priced g c r x));
+      is = λ w x a b. absurd (omega (arith, expands-priced g c r x));
+    }
+
+    module _ (le : c r ≤ 65535) where
+      pub says-14 : 65536 < l → Says g c r out (refused 14) out
+      says-14 lt = record {
+        none = λ h. absurd (h (marks e));
+        dear = λ h s. let w = costs-it .met le in absurd (omega (arith, s (w .0) (w .1), w .2));
+        circular = λ n a d h. kept 14 out;
+        long = λ w x h. absurd (omega (arith, known x));
+        is = λ w x a b. absurd (omega (arith, known x));
+      }
+
+      module _ (low : l ≤ 65536) where
+        pub says-15 : (65535 < l) ⊎ (length out < l) → Says g c r out (refused 15) out
+        says-15 lt = record {
+          none = λ h. absurd (h (marks e));
+          dear = λ h s. let w = costs-it .met le in absurd (omega (arith, s (w .0) (w .1), w .2));
+          circular = λ n a d h. absurd (h (length-grounded long-it low));
+          long = λ w x h. kept 15 out;
+          is = λ w x a b. absurd (over w x a b (decLe l 65535) lt);
+        }
+          where
+            over : (w : List ℕ) → Expands (denoted g) (price g) c (rul r ∷ []) w → length w ≤ 65535 → length w ≤ length out → Dec (l ≤ 65535) → (65535 < l) ⊎ (length out < l) → ⊥
+            over w x a b (yes k) (inl h) = omega arith
+            over w x a b (yes k) (inr h) = omega (arith, length-sentence long-it k x)
+            over w x a b (no k) h = omega (arith, length-long long-it (omega arith) x)
+
+      module _ (short : l ≤ 65535) (fits : l ≤ length out) where
+        pub says-ready : RuleReady g choice lengths (g .rules) r 0 out
+        says-ready = record {
+          led = record {
+            well = ok .well;
+            room = ok .worked .picks .room;
+            long = ok .worked .counts .long;
+            leads = record {
+              picks = λ q h. ok .worked .picks .chosen .is q h .isProd;
+              empty = λ n q h z. expanded-empty (denoted g) (price g) c (proper g (ok .well)) (choicesOf choice) (ok .worked .picks .chosen) (lengthsOf lengths) (ok .worked .counts .exact) n q h z;
+            };
+          };
+          isRule = ok .isRule;
+          grounded = inside;
+          fits = omega (arith, counted);
+        }
+          where
+            inside : within (denoted g) (choicesOf choice) (g .rules) r ≡ true
+            inside = known-within (denoted g) (price g) c (proper g (ok .well)) (choicesOf choice) (ok .worked .picks .chosen) (lengthsOf lengths) (ok .worked .counts .exact) r (omega arith)
+
+            counted : length (expanded (denoted g) (choicesOf choice) (g .rules) r) ≡ l
+            counted = expanded-length (denoted g) (price g) c (proper g (ok .well)) (choicesOf choice) (ok .worked .picks .chosen) (lengthsOf lengths) (ok .worked .counts .exact) (g .rules) r inside short
+
+        pub says-it : (n x : ℕ) (to : List ℕ) → n ≡ l → Wrote out 0 (expanded (denoted g) (choicesOf choice) (g .rules) r) x to → Says g c r out (answers n) to
+        says-it n x to en k = record {
+          none = λ h. absurd (h (marks e));
+          dear = λ h s. let w = costs-it .met le in absurd (omega (arith, s (w .0) (w .1), w .2));
+          circular = λ i a d h. absurd (h (length-grounded long-it (omega arith)));
+          long = λ w y h. absurd (fit w y h);
+          is = λ w y a b. record { number = ap answers (en ∙ sym (length-sentence long-it short y)); tokens = k .out ∙ ap (sets out 0) (sym (expands-expanded (denoted g) (price g) c (proper g (ok .well)) (choicesOf choice) (ok .worked .picks .chosen) y)) ∙ sets-eq w out 0 (omega arith) ∙ ap (λ (i : ℕ). w ++ drop i out) {x = 0 + length w} {y = length w} (omega arith) };
+        }
+          where
+            fit : (w : List ℕ) → Expands (denoted g) (price g) c (rul r ∷ []) w → (65535 < length w) ⊎ (length out < length w) → ⊥
+            fit w y (inl h) = omega (arith, length-sentence long-it short y)
+            fit w y (inr h) = omega (arith, length-sentence long-it short y)
+
+-- the same from what the tests on the way answered
+module _ (g : Flat) (r : ℕ) (row cost choice lengths out : List ℕ) (ok : Finished g r row cost choice lengths) (n : ℕ) (en : n ≡ g .rules) (wd : ℕ) (ew : wd ≡ words n) (b : Bool) (eb : b ≡ mark wd row 0 r) where
+  is-mark : mark (words (g .rules)) row 0 r ≡ b
+  is-mark = sym (eb ∙ rw (ew, en))
+
+  pub answer-12 : not b ≡ true → Says g (costsOf cost) r out (refused 12) out
+  answer-12 t = says-12 g r row cost choice lengths out ok (is-mark ∙ not-true b t)
+
+  module _ (t : not b ≡ false) (least : ℕ) (el : least ≡ at cost r) where
+    is-cost : least ≡ costsOf cost r
+    is-cost = el ∙ sym (entry cost r (omega (arith, ok .isRule, ok .worked .prices .long)))
+
+    pub answer-13 : 65535 < least → Says g (costsOf cost) r out (refused 13) out
+    answer-13 h = says-13 g r row cost choice lengths out ok (is-mark ∙ not-false b t) (omega (arith, is-cost))
+
+    module _ (h : least ≤ 65535) (long : ℕ) (eg : long ≡ at lengths r) where
+      is-long : long ≡ lengthsOf lengths r
+      is-long = eg ∙ sym (length-entry lengths r (omega (arith, ok .isRule, ok .worked .counts .long)))
+
+      pub answer-14 : 65536 < long → Says g (costsOf cost) r out (refused 14) out
+      answer-14 k = says-14 g r row cost choice lengths out ok (is-mark ∙ not-false b t) (omega (arith, is-cost)) (omega (arith, is-long))
+
+      module _ (k : long ≤ 65536) (s : ℕ) (es : s ≡ long) where
+        pub answer-15 : (ltb 65535 long || ltb (length out) s) ≡ true → Says g (costsOf cost) r out (refused 15) out
+        answer-15 f = says-15 g r row cost choice lengths out ok (is-mark ∙ not-false b t) (omega (arith, is-cost)) (omega (arith, is-long)) (elim (or-split (ltb 65535 long) _ f) [
+          | inl x ↦ inl (omega (arith, ltb-true 65535 long x, is-long))
+          | inr x ↦ inr (omega (arith, ltb-true (length out) s x, is-long))
+        ])
+
+        module _ (f : (ltb 65535 long || ltb (length out) s) ≡ false) where
+          not-below : (i j : ℕ) → ltb i j ≡ false → j ≤ i
+          not-below i j e = elim (decLe j i) [ yes x ↦ x | no x ↦ absurd (true≢false (sym (lt-ltb i j (omega arith)) ∙ e)) ]
+
+          short : lengthsOf lengths r ≤ 65535
+          short = omega (arith, not-below 65535 long (or-none (ltb 65535 long) _ f .0), is-long)
+
+          room : lengthsOf lengths r ≤ length out
+          room = omega (arith, not-below (length out) s (or-none (ltb 65535 long) _ f .1), is-long)
+
+          pub answer-ready : RuleReady g choice lengths n r 0 out
+          answer-ready = rw en (says-ready g r row cost choice lengths out ok (is-mark ∙ not-false b t) (omega (arith, is-cost)) short room)
+
+          pub answer-is : (x : ℕ) (to : List ℕ) → Wrote out 0 (expanded (denoted g) (choicesOf choice) n r) x to → Says g (costsOf cost) r out (answers long) to
+          answer-is x to w = says-it g r row cost choice lengths out ok (is-mark ∙ not-false b t) (omega (arith, is-cost)) short room long x to is-long (rw en at w)

@@ -1,0 +1,29 @@
+-- The working tables: what each fill asks, and what they come to.
+use mathlib.Core.List.{List}
+use mathlib.Core.Path.{_≡_}
+use Prim.Native.Nat.{ℕ}
+use lib.ListN.{length}
+use Rattle.grammar.specs.Flat.{Flat}
+use Rattle.costs.specs.Lent.{costsOf}
+use Rattle.costs.specs.Defined.{RowFillable, ProductiveDefined, CostFillable, CostDefined}
+use Rattle.sentences.specs.Choosing.{Choosable, FirstChoices}
+use Rattle.sentences.specs.Measuring.{LengthFillable, LengthsBy}
+use Rattle.sentences.specs.Working.{Workable, Worked}
+
+module _ (g : Flat) (productive cost choice lengths : List ℕ) (ok : Workable g productive cost choice lengths) where
+  pub work-productive : RowFillable g productive
+  work-productive = record { well = ok .well; long = ok .productive-long }
+
+  pub work-cost : CostFillable g cost
+  work-cost = record { well = ok .well; long = ok .cost-long }
+
+  module _ (cost′ : List ℕ) (d : CostDefined g cost′) where
+    pub work-choices : Choosable g cost′ choice
+    work-choices = record { well = ok .well; long = d .long; none = ok .none }
+
+    module _ (choice′ : List ℕ) (h : FirstChoices g cost′ choice′) where
+      pub work-lengths : LengthFillable g choice′ lengths
+      work-lengths = record { well = ok .well; picks = record { room = h .room; table = costsOf cost′; chosen = h .chosen }; long = ok .lengths-long }
+
+      pub work-done : (productive′ lengths′ : List ℕ) → ProductiveDefined g productive′ → LengthsBy g choice′ lengths′ → Worked g productive′ cost′ choice′ lengths′
+      work-done productive′ lengths′ p l = record { marks = p; prices = d; picks = h; counts = l (costsOf cost′) (h .chosen) }

@@ -5,3 +5,6 @@ pub mod Expanding
 pub mod Working
 pub mod Saying
 pub mod Asking
+pub mod Exactly
+pub mod Determined
+pub mod Source

@@ -1,0 +1,21 @@
+-- Demand 2 for sentences: where the source returns, the length fits and no used production has the place that document 01 names, its result is ours.
+use mathlib.Core.List.{List}
+use mathlib.Core.Path.{_≡_}
+use Prim.Native.Nat.{ℕ, _≤_}
+use lib.ListN.{length}
+use Rattle.theory.specs.Visits.{Costs}
+use Rattle.source.specs.Costs.{start, Returns as CostsReturn}
+use Rattle.source.specs.Sentence.{Returns, NoPlace}
+use Rattle.source.proofs.Sentence.{sentence-same}
+use Rattle.grammar.specs.Flat.{Flat, denoted, price}
+use Rattle.grammar.specs.Outcome.{Outcome}
+use Rattle.grammar.specs.Well.{WellFormed}
+use Rattle.grammar.proofs.Denoted.{proper}
+use Rattle.costs.specs.Lent.{costsOf}
+use Rattle.sentences.specs.Query.{Lends, Writes, Sentenced}
+
+-- b is what the source's `rule_min_costs` returns, v what its `min_sentence` returns
+pub source-equal : (g : Flat) → WellFormed g → (r : ℕ) (out : List ℕ) {s : Outcome ℕ} {a : Lends} → Sentenced g r out s a
+    → {b : Costs} → CostsReturn (denoted g) (price g) start b → (v : List ℕ) → Returns (denoted g) (price g) b r v → NoPlace (denoted g) (price g) (costsOf (a .cost)) r
+    → length v ≤ 65535 → length v ≤ length out → Writes v out s (a .out)
+source-equal g w r out x cs v y h short room = x .says .is v (sentence-same (denoted g) (price g) (proper g w) (x .cost .exact) cs y h) short room

@@ -1,20 +1,20 @@
 -- What the finished tables say of a rule: 12 to 15, or its sentence.
-use mathlib.Core.Bool.{Bool, true, false, not, _||_, true≢false}
+use mathlib.Core.Bool.{Bool, true, false, not, _&&_, true≢false}
 use mathlib.Core.List.{List, [], _∷_, _++_}
 use mathlib.Core.Logic.{_⊎_, inl, inr}
 use mathlib.Core.Path.{_≡_, refl, sym, ap, _∙_, subst}
 use Prim.Native.Nat.{ℕ, _+_, _≤_, _<_}
 use native.Mathlib.Decide.{decLe}
 use native.Mathlib.Omega.{arith}
-use lib.Dec.{ltb}
+use lib.Dec.{leb}
 use lib.ListN.{length, drop}
 use lib.Seq.{sets, sets-eq}
-use borrow.Author.Tests.{ltb-true, lt-ltb, not-true, not-false}
+use borrow.Author.Tests.{leb-true, le-leb, not-true, not-false}
 use Rattle.theory.specs.Definitions.{Productive, Cost}
 use Rattle.theory.specs.Grammar.{rul}
 use Rattle.theory.specs.Levels.{Length, within, expanded}
 use Rattle.theory.specs.Sentences.{Grounded, Expands, erul}
-use Rattle.theory.proofs.Bools.{or-none, or-split}
+use Rattle.theory.proofs.Bools.{and-split, and-join}
 use Rattle.theory.proofs.Cost.{cost-one}
 use Rattle.theory.proofs.Expanding.{expands-expanded, expanded-empty, expanded-length, known-within}
 use Rattle.theory.proofs.Lengths.{length-grounded, grounded-length, length-sentence, length-long}
@@ -175,24 +175,23 @@ module _ (g : Flat) (r : ℕ) (row cost choice lengths out : List ℕ) (ok : Fin
       answer-14 k = says-14 g r row cost choice lengths out ok (is-mark ∙ not-false b t) (omega (arith, is-cost)) (omega (arith, is-long))
 
       module _ (k : long ≤ 65536) (s : ℕ) (es : s ≡ long) where
-        pub answer-15 : (ltb 65535 long || ltb (length out) s) ≡ true → Says g (costsOf cost) r out (refused 15) out
-        answer-15 f = says-15 g r row cost choice lengths out ok (is-mark ∙ not-false b t) (omega (arith, is-cost)) (omega (arith, is-long)) (elim (or-split (ltb 65535 long) _ f) [
-          | inl x ↦ inl (omega (arith, ltb-true 65535 long x, is-long))
-          | inr x ↦ inr (omega (arith, ltb-true (length out) s x, is-long))
-        ])
-
-        module _ (f : (ltb 65535 long || ltb (length out) s) ≡ false) where
-          not-below : (i j : ℕ) → ltb i j ≡ false → j ≤ i
-          not-below i j e = elim (decLe j i) [ yes x ↦ x | no x ↦ absurd (true≢false (sym (lt-ltb i j (omega arith)) ∙ e)) ]
-
+        module _ (f : (leb long 65535 && leb s (length out)) ≡ true) where
           short : lengthsOf lengths r ≤ 65535
-          short = omega (arith, not-below 65535 long (or-none (ltb 65535 long) _ f .0), is-long)
+          short = omega (arith, leb-true long 65535 (and-split (leb long 65535) _ f .0), is-long)
 
           room : lengthsOf lengths r ≤ length out
-          room = omega (arith, not-below (length out) s (or-none (ltb 65535 long) _ f .1), is-long)
+          room = omega (arith, leb-true s (length out) (and-split (leb long 65535) _ f .1), is-long)
 
           pub answer-ready : RuleReady g choice lengths n r 0 out
           answer-ready = rw en (says-ready g r row cost choice lengths out ok (is-mark ∙ not-false b t) (omega (arith, is-cost)) short room)
 
           pub answer-is : (x : ℕ) (to : List ℕ) → Wrote out 0 (expanded (denoted g) (choicesOf choice) n r) x to → Says g (costsOf cost) r out (answers long) to
           answer-is x to w = says-it g r row cost choice lengths out ok (is-mark ∙ not-false b t) (omega (arith, is-cost)) short room long x to is-long (rw en at w)
+
+        pub answer-15 : (leb long 65535 && leb s (length out)) ≡ false → Says g (costsOf cost) r out (refused 15) out
+        answer-15 f = says-15 g r row cost choice lengths out ok (is-mark ∙ not-false b t) (omega (arith, is-cost)) (omega (arith, is-long)) (over (decLe long 65535) (decLe s (length out)))
+          where
+            over : Dec (long ≤ 65535) → Dec (s ≤ length out) → (65535 < lengthsOf lengths r) ⊎ (length out < lengthsOf lengths r)
+            over (no x) y = inl (omega (arith, is-long))
+            over (yes x) (no y) = inr (omega (arith, is-long))
+            over (yes x) (yes y) = absurd (true≢false (sym (and-join (le-leb long 65535 x) (le-leb s (length out) y)) ∙ f))

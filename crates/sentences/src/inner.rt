@@ -74,21 +74,21 @@ pub fn answer(
     if 65536 < long {
         return Length::Refused(14);
     }
-    if (65535 < long) | (out.len() < size(long)) {
-        return Length::Refused(15);
+    if (long <= 65535) & (size(long) <= out.len()) {
+        expand_rule(
+            rules,
+            owners,
+            starts,
+            symbols,
+            costs,
+            choice,
+            lengths,
+            n,
+            r,
+            0,
+            out,
+        );
+        return Length::Is(long);
     }
-    expand_rule(
-        rules,
-        owners,
-        starts,
-        symbols,
-        costs,
-        choice,
-        lengths,
-        n,
-        r,
-        0,
-        out,
-    );
-    Length::Is(long)
+    Length::Refused(15)
 }

@@ -30,17 +30,17 @@ returns-3 c = let y = c .before in let x = y .before in let q = x .before in let
 size-requires : tie.Need-size-requires
 size-requires c κs = search needs
 
-returns-4 : tie.Need-returns-4
-returns-4 c = let s = c .before in let v = s .before in let y = v .before in let x = y .before in let q = x .before in let z = q .before in let i = z .before in let o = i .before in let w = o .before in answer-15 _ _ _ _ _ _ _ (w .before .before .before .before .before .before .before .before .before .pre) _ (w .wide .ensures .0) _ (o .words-for .ensures) _ (i .is-set .ensures) (z .if1 .left) _ (q .entry-at .ensures) (x .if2 .left) _ (y .entry-at2 .ensures) (v .if3 .left) _ (s .size .ensures) (c .if4 .taken)
-
 expand-rule-requires : tie.Need-expand-rule-requires
-expand-rule-requires c κs = let u = c .before in let s = u .before in let v = s .before in let y = v .before in let x = y .before in let q = x .before in let z = q .before in let i = z .before in let o = i .before in let w = o .before in answer-ready _ _ _ _ _ _ _ (w .before .before .before .before .before .before .before .before .before .pre) _ (w .wide .ensures .0) _ (o .words-for .ensures) _ (i .is-set .ensures) (z .if1 .left) _ (q .entry-at .ensures) (x .if2 .left) _ (y .entry-at2 .ensures) (v .if3 .left) _ (s .size .ensures) (u .if4 .left)
+expand-rule-requires c κs = let u = c .before in let s = u .before in let v = s .before in let y = v .before in let x = y .before in let q = x .before in let z = q .before in let i = z .before in let o = i .before in let w = o .before in answer-ready _ _ _ _ _ _ _ (w .before .before .before .before .before .before .before .before .before .pre) _ (w .wide .ensures .0) _ (o .words-for .ensures) _ (i .is-set .ensures) (z .if1 .left) _ (q .entry-at .ensures) (x .if2 .left) _ (y .entry-at2 .ensures) (v .if3 .left) _ (s .size .ensures) (u .if4 .taken)
 
 same-length : tie.Need-same-length
 same-length c = search needs
 
+returns-4 : tie.Need-returns-4
+returns-4 c = let h = c .before .before in let u = h .before .before in let s = u .before in let v = s .before in let y = v .before in let x = y .before in let q = x .before in let z = q .before in let i = z .before in let o = i .before in let w = o .before in answer-is _ _ _ _ _ _ _ (w .before .before .before .before .before .before .before .before .before .pre) _ (w .wide .ensures .0) _ (o .words-for .ensures) _ (i .is-set .ensures) (z .if1 .left) _ (q .entry-at .ensures) (x .if2 .left) _ (y .entry-at2 .ensures) (v .if3 .left) _ (s .size .ensures) (u .if4 .taken) _ _ (h .expand-rule .ensures)
+
 returns-5 : tie.Need-returns-5
-returns-5 c = let h = c .before .before in let u = h .before .before in let s = u .before in let v = s .before in let y = v .before in let x = y .before in let q = x .before in let z = q .before in let i = z .before in let o = i .before in let w = o .before in answer-is _ _ _ _ _ _ _ (w .before .before .before .before .before .before .before .before .before .pre) _ (w .wide .ensures .0) _ (o .words-for .ensures) _ (i .is-set .ensures) (z .if1 .left) _ (q .entry-at .ensures) (x .if2 .left) _ (y .entry-at2 .ensures) (v .if3 .left) _ (s .size .ensures) (u .if4 .left) _ _ (h .expand-rule .ensures)
+returns-5 c = let s = c .before in let v = s .before in let y = v .before in let x = y .before in let q = x .before in let z = q .before in let i = z .before in let o = i .before in let w = o .before in answer-15 _ _ _ _ _ _ _ (w .before .before .before .before .before .before .before .before .before .pre) _ (w .wide .ensures .0) _ (o .words-for .ensures) _ (i .is-set .ensures) (z .if1 .left) _ (q .entry-at .ensures) (x .if2 .left) _ (y .entry-at2 .ensures) (v .if3 .left) _ (s .size .ensures) (c .if4 .left)
 
 pub answer-spec : {M : Type 1} → statement M
 answer-spec =
@@ -55,7 +55,7 @@ answer-spec =
     entry-at-requires-2
     returns-3
     size-requires
-    returns-4
     expand-rule-requires
     same-length
+    returns-4
     returns-5)

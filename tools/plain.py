@@ -3,9 +3,10 @@
 
     tools/plain.py report FILE         the report of a block file; '-' stands for standard input
 
-As a module it is there to be compared with. It follows the definitions and not the visits: what a rule may start
-with is reached over a graph, and the cheapest costs are settled from the cheapest up (Knuth's way). A refusal is
-the exception Refused with its number. Tables are lists and sets of Python; nothing is lent, so nothing gives 7.
+As a module it is there to be compared with. The tables follow the definitions and not the visits: what a rule may
+start with is reached over a graph, and the cheapest costs are settled from the cheapest up (Knuth's way). Single
+visits are there beside them. A refusal is the exception Refused with its number. Tables are lists and sets of Python:
+their lengths cannot be wrong, so nothing gives 7.
 """
 import sys
 from typing import NamedTuple
@@ -218,9 +219,10 @@ def sentence_cost(g, r):
     check_rule(g, r)
     if r not in productives(g):
         raise Refused(12)
-    if costs(g)[r] > MOST:
+    cost = costs(g)[r]
+    if cost > MOST:
         raise Refused(13)
-    return costs(g)[r]
+    return cost
 
 
 def first_choices(g):
@@ -238,9 +240,8 @@ def grounded(choice):
     return least(lambda held: {r for r, body in choice.items() if set(rules_of(body)) <= held})
 
 
-def sentence_lengths(g):
+def sentence_lengths(choice):
     """The token count, however large, of each grounded rule's sentence."""
-    choice = first_choices(g)
     known = {}
 
     def length(r):
@@ -254,14 +255,15 @@ def sentence_lengths(g):
 def lengths(g):
     """The length entry of each rule: 65536 if longer than 65535, 65537 if ungrounded or without cost."""
     check(g)
-    known = sentence_lengths(g)
+    known = sentence_lengths(first_choices(g))
     return [min(known[r], MOST + 1) if r in known else MOST + 2 for r in range(g.rules)]
 
 
 def sentence(g, r, room=MOST):
     """The tokens of a rule's sentence, for an output of that room."""
     sentence_cost(g, r)
-    choice, known = first_choices(g), sentence_lengths(g)
+    choice = first_choices(g)
+    known = sentence_lengths(choice)
     if r not in known:
         raise Refused(14)
     if known[r] > min(MOST, room):
@@ -273,6 +275,65 @@ def sentence(g, r, room=MOST):
         return [t for s in choice[rule] for t in (expanded(s - RULE) if s >= RULE else [s])]
 
     return expanded(r)
+
+
+def cleared(g):
+    """Cleared tables: FIRST, EMPTY, FOLLOW, PRODUCTIVE, COST."""
+    check(g)
+    follow = [{g.eof}] + [set() for _ in range(1, g.rules)]
+    return [set() for _ in range(g.rules)], set(), follow, set(), [MOST + 1] * g.rules
+
+
+def visit_first(g, p, first, empty):
+    """One visit of FIRST and EMPTY. Each visit changes its table and answers whether it did."""
+    body, r = production(g, p), g.owners[p]
+    before = set(first[r]), r in empty
+    for s in body:
+        first[r] |= first[s - RULE] if s >= RULE else {s}
+        if s < RULE or s - RULE not in empty:
+            break
+    else:
+        empty.add(r)
+    return (first[r], r in empty) != before
+
+
+def visit_follow(g, mode, p, follow, first, empty):
+    """One visit of FOLLOW."""
+    check(g)
+    if mode not in (1, 2):
+        raise Refused(8)
+    body, r = production(g, p), g.owners[p]
+    before = [set(held) for held in follow]
+    for k in reversed(range(len(body))):
+        if body[k] < RULE:
+            continue
+        held, after = follow[body[k] - RULE], body[k + 1 :]
+        if vanishes(after, empty):
+            held |= follow[r]
+        for s in after[:1] if mode == 1 else after:
+            held |= first[s - RULE] if s >= RULE else {s}
+            if not vanishes([s], empty):
+                break
+    return follow != before
+
+
+def visit_productive(g, p, productive):
+    """One visit of PRODUCTIVE."""
+    body, r = production(g, p), g.owners[p]
+    before = r in productive
+    if set(rules_of(body)) <= productive:
+        productive.add(r)
+    return (r in productive) != before
+
+
+def visit_cost(g, p, cost):
+    """One visit of COST."""
+    body, r = production(g, p), g.owners[p]
+    before = cost[r]
+    parts = [cost[s - RULE] if s >= RULE else g.costs[s] for s in body]
+    if max(parts, default=0) <= MOST and sum(parts) <= MOST:
+        cost[r] = min(cost[r], sum(parts))
+    return cost[r] != before
 
 
 def low_first(data):

@@ -95,6 +95,15 @@ def closed_follow(g, mode):
         table |= more
 
 
+def settled(g, dice, visit, *tables):
+    """The tables after rounds of visits, each in an order of its own, until a round changes nothing."""
+    changed = True
+    while changed:
+        order = dice.sample(range(len(g.owners)), len(g.owners))
+        changed = any([visit(p, *tables) for p in order])
+    return tables
+
+
 def random_grammar(dice):
     """A well-formed grammar of one to three rules besides the start, bodies of at most two symbols, costs 0 to 3."""
     R, T = dice.randint(2, 4), dice.randint(2, 3)
@@ -209,6 +218,46 @@ class Plain(unittest.TestCase):
                 paid = sentence_costs(g, 60)
                 self.assertEqual(plain.productives(g), {r for r, held in enumerate(paid) if held})
                 self.assertEqual(plain.costs(g), [min(held, default=65536) for held in paid])
+
+    def visits_settle(self, g, dice):
+        first, empty, follow, productive, cost = plain.cleared(g)
+        settled(g, dice, lambda p, *held: plain.visit_first(g, p, *held), first, empty)
+        self.assertEqual((first, empty), (plain.firsts(g), plain.empties(g)))
+        for mode in 1, 2:
+            follow = plain.cleared(g)[2]
+            settled(g, dice, lambda p, held: plain.visit_follow(g, mode, p, held, first, empty), follow)
+            self.assertEqual(follow, plain.follows(g, mode))
+            self.assertEqual(follow, closed_follow(g, mode))
+        settled(g, dice, lambda p, held: plain.visit_productive(g, p, held), productive)
+        self.assertEqual(productive, plain.productives(g))
+        settled(g, dice, lambda p, held: plain.visit_cost(g, p, held), cost)
+        self.assertEqual(cost, plain.costs(g))
+
+    def test_visits_settle_on_the_definitions(self):
+        dice = random.Random(3)
+        for path in sorted(EXAMPLES.glob("*.blk")):
+            with self.subTest(path.name):
+                self.visits_settle(plain.read(path.read_bytes()), dice)
+        for k in range(20):
+            g = random_grammar(dice)
+            with self.subTest(f"{k}: {g}"):
+                self.visits_settle(g, dice)
+
+    def test_two_rounds_of_g1(self):
+        g = example("g1")
+        first, empty = plain.cleared(g)[:2]
+        for marks in set(), {0, 2}:
+            for p in 5, 0, 1, 2, 3, 4:
+                plain.visit_first(g, p, first, empty)
+            self.assertEqual(first[1], marks)
+
+    def test_follow_goes_right_to_left(self):
+        # start: A; A: A B; A: a; B: b. B takes what A has before A takes b.
+        g = Grammar(3, [0, 1, 1, 2], [0, 1, 3, 4, 5], [RULE + 1, RULE + 1, RULE + 2, 0, 1], [1, 1, 1])
+        first, empty, follow = plain.firsts(g), plain.empties(g), [{2}, {2}, set()]
+        for changed, held in (True, [{2}, {1, 2}, {2}]), (True, [{2}, {1, 2}, {1, 2}]), (False, [{2}, {1, 2}, {1, 2}]):
+            self.assertEqual(plain.visit_follow(g, 2, 1, follow, first, empty), changed)
+            self.assertEqual(follow, held)
 
     def test_random_sentences(self):
         dice = random.Random(2)

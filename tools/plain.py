@@ -1,5 +1,6 @@
 #!/usr/bin/env python3
-"""Document 01 once more, plain and slow: sets, recursion and whole numbers of any size, from its text alone.
+"""Document 01 once more, plain and slow: sets, recursion and whole numbers of any size. It is written from that text,
+with the readings of its open points in docs/DECISIONS.md, and from no crate.
 
     tools/plain.py report FILE         the report of a block file; '-' stands for standard input
 

@@ -1,0 +1,407 @@
+#!/usr/bin/env python3
+"""Document 01 once more, plain and slow: sets, recursion and whole numbers of any size. It is written from that text,
+with the readings of its open points in docs/DECISIONS.md, and from no crate.
+
+    tools/plain.py report FILE         the report of a block file; '-' stands for standard input
+
+As a module it is there to be compared with. The tables follow the definitions and not the visits: what a rule may
+start with is reached over a graph, and the cheapest costs are settled from the cheapest up (Knuth's way). Single
+visits are there beside them. A refusal is the exception Refused with its number. Tables are lists and sets of Python:
+their lengths cannot be wrong, so nothing gives 7.
+"""
+import sys
+from typing import NamedTuple
+
+RULE = 32768
+MOST = 65535
+HEADING = "rule,empty,first,follow,cost"
+
+sys.setrecursionlimit(10000)
+
+
+class Refused(Exception):
+    def __init__(self, number):
+        super().__init__(f"refused {number}")
+        self.number = number
+
+
+class Grammar(NamedTuple):
+    """R rules and four lists. A symbol below 32768 is a token, otherwise rule (value - 32768)."""
+
+    rules: int
+    owners: list
+    starts: list
+    symbols: list
+    costs: list
+
+    @property
+    def eof(self):
+        return len(self.costs) - 1
+
+    def body(self, p):
+        return self.symbols[self.starts[p] : self.starts[p + 1]]
+
+    def productions(self):
+        """Owner and symbols of each production, in rising number."""
+        return [(owner, self.body(p)) for p, owner in enumerate(self.owners)]
+
+
+def in_limits(R, T, P, N):
+    return 2 <= R <= 512 and 1 <= T <= 512 and 2 <= P <= 4096 and 1 <= N <= 16384
+
+
+def refusal(g):
+    """The lowest of 1 to 6 that is due; 0 for a well-formed grammar."""
+    R, T, P, N = g.rules, len(g.costs), len(g.owners), len(g.symbols)
+    if not in_limits(R, T, P, N):
+        return 1
+    if len(g.starts) != P + 1 or g.starts[0] != 0 or g.starts[-1] != N:
+        return 2
+    if any(g.starts[p] > g.starts[p + 1] for p in range(P)):
+        return 2
+    if any(owner >= R for owner in g.owners):
+        return 3
+    if set(range(R)) - set(g.owners):
+        return 4
+    if any(s >= T - 1 if s < RULE else s - RULE >= R for s in g.symbols):
+        return 5
+    own = [body for owner, body in g.productions() if owner == 0]
+    if len(own) != 1 or len(own[0]) != 1 or own[0][0] < RULE or RULE in g.symbols:
+        return 6
+    return 0
+
+
+def check(g):
+    if refusal(g):
+        raise Refused(refusal(g))
+
+
+def check_rule(g, *rules):
+    if any(r >= g.rules for r in rules):
+        raise Refused(9)
+
+
+def production(g, p):
+    """The symbols of a production."""
+    check(g)
+    if p >= len(g.owners):
+        raise Refused(11)
+    return g.body(p)
+
+
+def least(step):
+    """The least set that holds what the step adds to it."""
+    held = set()
+    while True:
+        more = step(held)
+        if more <= held:
+            return held
+        held |= more
+
+
+def reached(start, links):
+    """What is reached from there by one link or more."""
+    held = set()
+
+    def go_on(at):
+        for to in links.get(at, ()):
+            if to not in held:
+                held.add(to)
+                go_on(to)
+
+    go_on(start)
+    return held
+
+
+def rules_of(body):
+    return [s - RULE for s in body if s >= RULE]
+
+
+def vanishes(body, empty):
+    return all(s >= RULE and s - RULE in empty for s in body)
+
+
+def empties(g):
+    """EMPTY: the rules that derive the form of no symbols."""
+    check(g)
+    return least(lambda held: {r for r, body in g.productions() if vanishes(body, held)})
+
+
+def productives(g):
+    """PRODUCTIVE: the rules that derive some token string."""
+    check(g)
+    return least(lambda held: {r for r, body in g.productions() if set(rules_of(body)) <= held})
+
+
+def leads(body, empty):
+    """The symbols before which everything may vanish, and whether the end is such a place."""
+    found = []
+    for s in body:
+        found.append(s)
+        if not vanishes([s], empty):
+            return found, False
+    return found, True
+
+
+def firsts(g):
+    """FIRST of each rule: the tokens reached over symbols that a production may start with."""
+    check(g)
+    empty = empties(g)
+    links = {}
+    for r, body in g.productions():
+        links.setdefault(RULE + r, set()).update(leads(body, empty)[0])
+    return [{s for s in reached(RULE + r, links) if s < RULE} for r in range(g.rules)]
+
+
+def follows(g, mode):
+    """FOLLOW of each rule, in the crate's mode (1) or corrected (2)."""
+    check(g)
+    if mode not in (1, 2):
+        raise Refused(8)
+    first, empty = firsts(g), empties(g)
+    own = [set() for _ in range(g.rules)]
+    own[0].add(g.eof)
+    heirs = {}  # the rules that have all of a rule's FOLLOW
+    for r, body in g.productions():
+        for k, a in enumerate(body):
+            if a < RULE:
+                continue
+            after, past = leads(body[k + 1 :], empty)
+            for s in after[:1] if mode == 1 else after:
+                own[a - RULE] |= first[s - RULE] if s >= RULE else {s}
+            if past:
+                heirs.setdefault(r, set()).add(a - RULE)
+    follow = [set(held) for held in own]
+    for r in range(g.rules):
+        for heir in reached(r, heirs):
+            follow[heir] |= own[r]
+    return follow
+
+
+def has_path(g, a, b):
+    """Whether rule a derives, in one step or more, a form that holds rule b."""
+    check(g)
+    check_rule(g, a, b)
+    links = {}
+    for r, body in g.productions():
+        links.setdefault(r, set()).update(rules_of(body))
+    return b in reached(a, links)
+
+
+def price(g, body, known):
+    """The cost of a body over the costs known of rules; None if a rule's is not."""
+    if any(r not in known for r in rules_of(body)):
+        return None
+    return sum(known[s - RULE] if s >= RULE else g.costs[s] for s in body)
+
+
+def least_costs(g):
+    """The least cost of a sentence, however large, of each rule that has one."""
+    settled = {}
+    while True:
+        sums = [(price(g, body, settled), r) for r, body in g.productions() if r not in settled]
+        sums = [(cost, r) for cost, r in sums if cost is not None]
+        if not sums:
+            return settled
+        cheapest = min(sums)[0]
+        settled.update((r, cost) for cost, r in sums if cost == cheapest)
+
+
+def costs(g):
+    """COST of each rule: at most 65535, or 65536."""
+    check(g)
+    known = least_costs(g)
+    return [min(known.get(r, MOST + 1), MOST + 1) for r in range(g.rules)]
+
+
+def sentence_cost(g, r):
+    """The cost query."""
+    check(g)
+    check_rule(g, r)
+    if r not in productives(g):
+        raise Refused(12)
+    cost = costs(g)[r]
+    if cost > MOST:
+        raise Refused(13)
+    return cost
+
+
+def first_choices(g):
+    """The lowest-numbered production whose cost equals the rule's, of each rule that has a cost."""
+    known = {r: cost for r, cost in enumerate(costs(g)) if cost <= MOST}
+    choice = {}
+    for r, body in g.productions():
+        if r in known and r not in choice and price(g, body, known) == known[r]:
+            choice[r] = body
+    return choice
+
+
+def grounded(choice):
+    """The rules whose first choice holds only tokens and grounded rules."""
+    return least(lambda held: {r for r, body in choice.items() if set(rules_of(body)) <= held})
+
+
+def sentence_lengths(choice):
+    """The token count, however large, of each grounded rule's sentence."""
+    known = {}
+
+    def length(r):
+        if r not in known:
+            known[r] = sum(length(s - RULE) if s >= RULE else 1 for s in choice[r])
+        return known[r]
+
+    return {r: length(r) for r in grounded(choice)}
+
+
+def lengths(g):
+    """The length entry of each rule: 65536 if longer than 65535, 65537 if ungrounded or without cost."""
+    check(g)
+    known = sentence_lengths(first_choices(g))
+    return [min(known[r], MOST + 1) if r in known else MOST + 2 for r in range(g.rules)]
+
+
+def sentence(g, r, room=MOST):
+    """The tokens of a rule's sentence, for an output of that room."""
+    sentence_cost(g, r)
+    choice = first_choices(g)
+    known = sentence_lengths(choice)
+    if r not in known:
+        raise Refused(14)
+    if known[r] > min(MOST, room):
+        raise Refused(15)
+
+    def expanded(rule):
+        if known[rule] == 0:
+            return []
+        return [t for s in choice[rule] for t in (expanded(s - RULE) if s >= RULE else [s])]
+
+    return expanded(r)
+
+
+def cleared(g):
+    """Cleared tables: FIRST, EMPTY, FOLLOW, PRODUCTIVE, COST."""
+    check(g)
+    follow = [{g.eof}] + [set() for _ in range(1, g.rules)]
+    return [set() for _ in range(g.rules)], set(), follow, set(), [MOST + 1] * g.rules
+
+
+def visit_first(g, p, first, empty):
+    """One visit of FIRST and EMPTY. Each visit changes its table and answers whether it did."""
+    body, r = production(g, p), g.owners[p]
+    before = set(first[r]), r in empty
+    for s in body:
+        first[r] |= first[s - RULE] if s >= RULE else {s}
+        if s < RULE or s - RULE not in empty:
+            break
+    else:
+        empty.add(r)
+    return (first[r], r in empty) != before
+
+
+def visit_follow(g, mode, p, follow, first, empty):
+    """One visit of FOLLOW."""
+    check(g)
+    if mode not in (1, 2):
+        raise Refused(8)
+    body, r = production(g, p), g.owners[p]
+    before = [set(held) for held in follow]
+    for k in reversed(range(len(body))):
+        if body[k] < RULE:
+            continue
+        held, after = follow[body[k] - RULE], body[k + 1 :]
+        if vanishes(after, empty):
+            held |= follow[r]
+        for s in after[:1] if mode == 1 else after:
+            held |= first[s - RULE] if s >= RULE else {s}
+            if not vanishes([s], empty):
+                break
+    return follow != before
+
+
+def visit_productive(g, p, productive):
+    """One visit of PRODUCTIVE."""
+    body, r = production(g, p), g.owners[p]
+    before = r in productive
+    if set(rules_of(body)) <= productive:
+        productive.add(r)
+    return (r in productive) != before
+
+
+def visit_cost(g, p, cost):
+    """One visit of COST."""
+    body, r = production(g, p), g.owners[p]
+    before = cost[r]
+    parts = [cost[s - RULE] if s >= RULE else g.costs[s] for s in body]
+    if max(parts, default=0) <= MOST and sum(parts) <= MOST:
+        cost[r] = min(cost[r], sum(parts))
+    return cost[r] != before
+
+
+def low_first(data):
+    """The number that two bytes say."""
+    return data[0] + 256 * data[1]
+
+
+def read_tables(data):
+    """The grammar that a block file says, well formed or not; refusals 20, 21, 22, 1 and 23."""
+    if not data or len(data) % 512 or len(data) > 98 * 512:
+        raise Refused(20)
+    blocks = [data[k : k + 512] for k in range(0, len(data), 512)]
+    if any(sum(block[:510]) % 65536 != low_first(block[510:]) for block in blocks):
+        raise Refused(21)
+    if any(low_first(block) != k for k, block in enumerate(blocks)):
+        raise Refused(22)
+    payload = b"".join(block[2:510] for block in blocks)
+    R, T, P, N = (low_first(payload[2 * k :]) for k in range(4))
+    if not in_limits(R, T, P, N):
+        raise Refused(1)
+    numbers = 4 + P + (P + 1) + N
+    due = 2 * numbers + T
+    if len(blocks) != (due + 507) // 508 or any(payload[due:]):
+        raise Refused(23)
+    said = [low_first(payload[2 * k :]) for k in range(4, numbers)]
+    return Grammar(R, said[:P], said[P : 2 * P + 1], said[2 * P + 1 :], list(payload[2 * numbers : due]))
+
+
+def read(data):
+    """The well-formed grammar that a block file says; refusals 20, 21, 22, 1, 23, then 2 to 6."""
+    g = read_tables(data)
+    check(g)
+    return g
+
+
+def cost_word(cost, productive):
+    if cost <= MOST:
+        return str(cost)
+    return "dear" if productive else "none"
+
+
+def report(data):
+    """The report on a block file, as text."""
+    try:
+        g = read(data)
+    except Refused as refused:
+        return f"{refused}\n"
+    empty, first, follow, cost, productive = empties(g), firsts(g), follows(g, 2), costs(g), productives(g)
+    lines = [HEADING]
+    for r in range(g.rules):
+        sets = [" ".join(str(t) for t in sorted(held)) for held in (first[r], follow[r])]
+        lines.append(f"{r},{int(r in empty)},{sets[0]},{sets[1]},{cost_word(cost[r], r in productive)}")
+    return "\n".join(lines) + "\n"
+
+
+def main(words):
+    if len(words) != 2 or words[0] != "report":
+        print("use: tools/plain.py report FILE", file=sys.stderr)
+        return 2
+    try:
+        with open(0 if words[1] == "-" else words[1], "rb") as file:
+            print(report(file.read()), end="")
+    except OSError as error:
+        print(f"plain: {words[1]}: {error.strerror}", file=sys.stderr)
+        return 2
+    return 0
+
+
+if __name__ == "__main__":
+    sys.exit(main(sys.argv[1:]))

@@ -1,0 +1,281 @@
+#!/usr/bin/env python3
+"""Tests of plain.py: document 01's lines, the examples' reports, the refusals, and small random grammars held to the
+definitions by search. Run alone, or with the others of this folder: python3 -m unittest discover -s tools"""
+import itertools
+import pathlib
+import random
+import struct
+import sys
+import unittest
+
+sys.dont_write_bytecode = True
+import plain
+from plain import RULE, Grammar, Refused
+
+EXAMPLES = pathlib.Path(__file__).resolve().parent.parent / "examples"
+
+
+def example(name):
+    return plain.read((EXAMPLES / f"{name}.blk").read_bytes())
+
+
+def block_file(numbers, costs=b"", number=0):
+    block = (struct.pack(f"<{len(numbers) + 1}H", number, *numbers) + costs).ljust(510, b"\0")
+    return block + struct.pack("<H", sum(block) % 65536)
+
+
+def refused(call, *words):
+    """The number of a call's refusal, 0 if it answers."""
+    try:
+        call(*words)
+    except Refused as why:
+        return why.number
+    return 0
+
+
+def forms(g, r, longest):
+    """All forms of at most that length that a rule derives in one step or more through such forms."""
+    todo, held = [(RULE + r,)], set()
+    while todo:
+        form = todo.pop()
+        for k, s in enumerate(form):
+            for owner, body in g.productions():
+                made = form[:k] + tuple(body) + form[k + 1 :]
+                if s == RULE + owner and len(made) <= longest and made not in held:
+                    held.add(made)
+                    todo.append(made)
+    return held
+
+
+def sentence_costs(g, cap):
+    """The costs up to the cap of all sentences of each rule."""
+    held = [set() for _ in range(g.rules)]
+    changed = True
+    while changed:
+        changed = False
+        for r, body in g.productions():
+            parts = [held[s - RULE] if s >= RULE else {g.costs[s]} for s in body]
+            new = {sum(pick) for pick in itertools.product(*parts)}
+            new = {cost for cost in new if cost <= cap} - held[r]
+            held[r] |= new
+            changed = changed or bool(new)
+    return held
+
+
+def ends(choice, r, depth):
+    """Whether replacing rules by their first choices ends within that depth."""
+    return all(s < RULE or depth > 0 and ends(choice, s - RULE, depth - 1) for s in choice[r])
+
+
+def closed_follow(g, mode):
+    """The least table closed under FOLLOW's rules, by rounds, in document 01's words."""
+    first, empty = plain.firsts(g), plain.empties(g)
+    table = {(0, len(g.costs) - 1)}
+    while True:
+        more = set()
+        for r, body in g.productions():
+            ends = {t for a, t in table if a == r}
+            for k, a in enumerate(body):
+                after = body[k + 1 :]
+                if a < RULE:
+                    continue
+                if mode == 1:
+                    add = set() if not after else {after[0]} if after[0] < RULE else first[after[0] - RULE]
+                    if all(s >= RULE and s - RULE in empty for s in after):
+                        add = add | ends
+                else:
+                    add = set()
+                    while after and after[0] >= RULE and after[0] - RULE in empty:
+                        add = add | first[after[0] - RULE]
+                        after = after[1:]
+                    add = add | (ends if not after else {after[0]} if after[0] < RULE else first[after[0] - RULE])
+                more |= {(a - RULE, t) for t in add}
+        if more <= table:
+            return [{t for a, t in table if a == r} for r in range(g.rules)]
+        table |= more
+
+
+def settled(g, dice, visit, *tables):
+    """The tables after rounds of visits, each in an order of its own, until a round changes nothing."""
+    changed = True
+    while changed:
+        order = dice.sample(range(len(g.owners)), len(g.owners))
+        changed = any([visit(p, *tables) for p in order])
+    return tables
+
+
+def random_grammar(dice):
+    """A well-formed grammar of one to three rules besides the start, bodies of at most two symbols, costs 0 to 3."""
+    R, T = dice.randint(2, 4), dice.randint(2, 3)
+    owners = list(range(R)) + [dice.randrange(1, R) for _ in range(dice.randint(0, 4))]
+    dice.shuffle(owners)
+    symbols = [*range(T - 1), *range(RULE + 1, RULE + R)]
+    bodies = [dice.choices(symbols, k=dice.randint(0, 2)) for _ in owners]
+    bodies[owners.index(0)] = [RULE + dice.randrange(1, R)]
+    starts = [sum(map(len, bodies[:p])) for p in range(len(bodies) + 1)]
+    return Grammar(R, owners, starts, sum(bodies, []), [dice.randint(0, 3) for _ in range(T)])
+
+
+class Plain(unittest.TestCase):
+    def test_reports_of_the_examples(self):
+        for path in sorted(EXAMPLES.glob("*.report")):
+            with self.subTest(path.name):
+                self.assertEqual(plain.report(path.with_suffix(".blk").read_bytes()), path.read_text())
+
+    def test_lines_of_document_01(self):
+        g1, g2, g3, g4, g6 = map(example, ("g1", "g2", "g3", "g4", "g6"))
+        self.assertEqual(plain.firsts(g1)[1], {0, 2})
+        self.assertEqual(plain.follows(g1, 2)[2], {0})
+        self.assertEqual((plain.costs(g1)[1], plain.sentence(g1, 0)), (1, [0]))
+        self.assertEqual((plain.follows(g2, 1)[2], plain.follows(g2, 2)[2]), ({1}, {1, 2}))
+        self.assertEqual((plain.costs(g3)[1], refused(plain.sentence, g3, 1)), (1, 14))
+        self.assertEqual((plain.has_path(g3, 1, 1), plain.has_path(g3, 0, 0)), (True, False))
+        self.assertEqual((plain.firsts(g4)[1], refused(plain.sentence_cost, g4, 1)), (set(), 12))
+        self.assertEqual(plain.sentence_cost(example("g5"), 1), 65535)
+        self.assertEqual(refused(plain.sentence_cost, example("g5-dear"), 1), 13)
+        self.assertEqual(plain.sentence_cost(example("g5-either"), 1), 1)
+        self.assertEqual((plain.costs(g6)[1], plain.sentence(g6, 1)), (1, [1]))
+
+    def test_edges_of_document_01(self):
+        ring = [RULE + 1] + [RULE + r + 1 for r in range(1, 512)]
+        for R, due in (512, 0), (513, 1), (1, 1):
+            g = Grammar(R, list(range(R)), list(range(R)) + [R - 1], ring[: R - 1] or [0], [1, 1])
+            self.assertEqual(plain.refusal(g), due)
+        for last, length in ([], 0), ([0], 65536):
+            bodies = [[RULE + 1]] + [[RULE + r + 1] * 2 for r in range(1, 60)] + [last]
+            starts = [sum(map(len, bodies[:p])) for p in range(62)]
+            twice = Grammar(61, list(range(61)), starts, sum(bodies, []), [0, 1])
+            self.assertEqual(plain.lengths(twice)[0], length)
+            self.assertEqual(refused(plain.sentence, twice, 0, 0), 15 if length else 0)
+        self.assertEqual(refused(plain.sentence, example("g1"), 1, 0), 15)
+        self.assertEqual(plain.sentence(example("g1"), 2, 0), [])
+        self.assertEqual(plain.lengths(example("g3")), [65537, 65537])
+
+    def test_refusals_of_a_grammar(self):
+        g = example("g1")
+        turned = Grammar(4, g.owners, [0, 3, 4, 4, 7, 6, 7], g.symbols, g.costs)
+        wrong = {
+            1: [g._replace(rules=1), g._replace(costs=[]), g._replace(owners=[0]), g._replace(symbols=[])],
+            2: [g._replace(starts=g.starts[:-1]), g._replace(starts=[1, 3, 4, 4, 6, 6, 7]), turned,
+                g._replace(symbols=g.symbols + [0])],
+            3: [g._replace(owners=[1, 2, 2, 3, 4, 0])],
+            4: [g._replace(owners=[1, 1, 1, 3, 3, 0])],
+            5: [g._replace(symbols=[3] + g.symbols[1:]), g._replace(symbols=[RULE + 4] + g.symbols[1:])],
+            6: [g._replace(owners=[1, 2, 2, 3, 0, 0]), g._replace(symbols=g.symbols[:-1] + [0]),
+                g._replace(symbols=[RULE] + g.symbols[1:]), g._replace(owners=[0, 2, 2, 3, 3, 1])],
+        }
+        for number, grammars in wrong.items():
+            for k, other in enumerate(grammars):
+                with self.subTest(f"{number}, {k}"):
+                    self.assertEqual(plain.refusal(other), number)
+        self.assertEqual(refused(plain.production, g, 6), 11)
+        self.assertEqual(plain.production(g, 0), [RULE + 2, 0, RULE + 3])
+        self.assertEqual(refused(plain.follows, g, 3), 8)
+        self.assertEqual([refused(plain.has_path, g, 4, 0), refused(plain.has_path, g, 0, 4)], [9, 9])
+        self.assertEqual(refused(plain.sentence, g, 4), 9)
+
+    def test_refusals_of_a_file(self):
+        flat = "4 4 6 7  1 2 2 3 3 0  0 3 4 4 6 6 7  32770 0 32771 2 1 0 32769"
+        flat, ones = [int(word) for word in flat.split()], bytes([1] * 4)
+        g1 = block_file(flat, ones)
+
+        def other(at, value):
+            return block_file(flat[:at] + [value] + flat[at + 1 :], ones)
+
+        next_block = block_file([], b"", 1)
+        files = {
+            0: [g1],
+            20: [b"", g1[:511], g1 + b"\0", g1 * 99],
+            21: [g1[:511] + b"\0", g1[:300] + b"\1" + g1[301:], block_file(flat, ones, 1) + g1[:511] + b"\0"],
+            22: [block_file(flat, ones, 1), g1 * 2, g1 * 98, block_file([0], b"", 2)],
+            1: [other(0, 1), other(1, 0), other(2, 4097), other(3, 16385), other(0, 1) + next_block],
+            23: [g1 + next_block, block_file(flat, ones + b"\1"), other(1, 512)],
+            2: [other(10, 1), other(11, 5)],
+            3: [other(4, 4)],
+            4: [other(9, 1)],
+            5: [other(17, 3), other(17, 32772)],
+            6: [other(17, 32768), other(23, 0)],
+        }
+        for number, data in [(number, data) for number in files for data in files[number]]:
+            with self.subTest(f"{number}, {data[:60].hex()}"):
+                self.assertEqual(refused(plain.read, data), number)
+                if number:
+                    self.assertEqual(plain.report(data), f"refused {number}\n")
+
+    def test_random_grammars_against_the_definitions(self):
+        dice = random.Random(1)
+        for k in range(60):
+            g = random_grammar(dice)
+            with self.subTest(f"{k}: {g}"):
+                self.assertEqual(plain.refusal(g), 0)
+                derived = [forms(g, r, 5) for r in range(g.rules)]
+                self.assertEqual(plain.firsts(g), [{f[0] for f in fs if f and f[0] < RULE} for fs in derived])
+                self.assertEqual(plain.empties(g), {r for r, fs in enumerate(derived) if () in fs})
+                for a, b in itertools.product(range(g.rules), repeat=2):
+                    self.assertEqual(plain.has_path(g, a, b), any(RULE + b in f for f in derived[a]))
+                for mode in 1, 2:
+                    self.assertEqual(plain.follows(g, mode), closed_follow(g, mode))
+                paid = sentence_costs(g, 60)
+                self.assertEqual(plain.productives(g), {r for r, held in enumerate(paid) if held})
+                self.assertEqual(plain.costs(g), [min(held, default=65536) for held in paid])
+
+    def visits_settle(self, g, dice):
+        first, empty, follow, productive, cost = plain.cleared(g)
+        settled(g, dice, lambda p, *held: plain.visit_first(g, p, *held), first, empty)
+        self.assertEqual((first, empty), (plain.firsts(g), plain.empties(g)))
+        for mode in 1, 2:
+            follow = plain.cleared(g)[2]
+            settled(g, dice, lambda p, held: plain.visit_follow(g, mode, p, held, first, empty), follow)
+            self.assertEqual(follow, plain.follows(g, mode))
+            self.assertEqual(follow, closed_follow(g, mode))
+        settled(g, dice, lambda p, held: plain.visit_productive(g, p, held), productive)
+        self.assertEqual(productive, plain.productives(g))
+        settled(g, dice, lambda p, held: plain.visit_cost(g, p, held), cost)
+        self.assertEqual(cost, plain.costs(g))
+
+    def test_visits_settle_on_the_definitions(self):
+        dice = random.Random(3)
+        for path in sorted(EXAMPLES.glob("*.blk")):
+            with self.subTest(path.name):
+                self.visits_settle(plain.read(path.read_bytes()), dice)
+        for k in range(20):
+            g = random_grammar(dice)
+            with self.subTest(f"{k}: {g}"):
+                self.visits_settle(g, dice)
+
+    def test_two_rounds_of_g1(self):
+        g = example("g1")
+        first, empty = plain.cleared(g)[:2]
+        for marks in set(), {0, 2}:
+            for p in 5, 0, 1, 2, 3, 4:
+                plain.visit_first(g, p, first, empty)
+            self.assertEqual(first[1], marks)
+
+    def test_follow_goes_right_to_left(self):
+        # start: A; A: A B; A: a; B: b. B takes what A has before A takes b.
+        g = Grammar(3, [0, 1, 1, 2], [0, 1, 3, 4, 5], [RULE + 1, RULE + 1, RULE + 2, 0, 1], [1, 1, 1])
+        first, empty, follow = plain.firsts(g), plain.empties(g), [{2}, {2}, set()]
+        for changed, held in (True, [{2}, {1, 2}, {2}]), (True, [{2}, {1, 2}, {1, 2}]), (False, [{2}, {1, 2}, {1, 2}]):
+            self.assertEqual(plain.visit_follow(g, 2, 1, follow, first, empty), changed)
+            self.assertEqual(follow, held)
+
+    def test_random_sentences(self):
+        dice = random.Random(2)
+        for k in range(60):
+            g = random_grammar(dice)
+            choice = plain.first_choices(g)
+            for r in range(g.rules):
+                with self.subTest(f"{k}: {g}, rule {r}"):
+                    number = refused(plain.sentence, g, r)
+                    self.assertIn(number, (0, 12, 14))
+                    if number == 0:
+                        parts = [plain.sentence(g, s - RULE) if s >= RULE else [s] for s in choice[r]]
+                        said = plain.sentence(g, r)
+                        self.assertEqual(said, sum(parts, []))
+                        self.assertEqual(sum(g.costs[t] for t in said), plain.costs(g)[r])
+                    if number != 12:
+                        self.assertEqual(number == 0, ends(choice, r, g.rules))
+
+
+if __name__ == "__main__":
+    unittest.main()

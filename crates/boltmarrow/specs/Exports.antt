@@ -1,0 +1,63 @@
+-- What an exported call answers: the library call's answer, as a struct of a refusal and a value.
+use mathlib.Core.Bool.{Bool, true, false}
+use mathlib.Core.Path.{_≡_}
+use Prim.Native.Nat.{ℕ}
+use Rattle.grammar.specs.Outcome.{Outcome, answers, refused}
+use Rattle.grammar.specs.Production.{checkedIs}
+use Rattle.grammar.specs.declared.Checked.{Checked}
+use Rattle.tables.specs.Answers.{askedIs, visitedIs, filledIs}
+use Rattle.tables.specs.declared.Asked.{Asked}
+use Rattle.tables.specs.declared.Visited.{Visited}
+use Rattle.tables.specs.declared.Filled.{Filled}
+use Rattle.costs.specs.Query.{costIs}
+use Rattle.costs.specs.declared.Cost.{Cost}
+use Rattle.sentences.specs.Query.{lengthIs}
+use Rattle.sentences.specs.declared.Length.{Length}
+use Rattle.boltmarrow.specs.declared.Answer.{Answer}
+
+abbrev pub answeredWith : ℕ → Answer
+answeredWith n = record { refusal = 0; value = n }
+
+abbrev pub refusedWith : ℕ → Answer
+refusedWith n = record { refusal = n; value = 0 }
+
+-- refusal 0: answered; a refusal's number, and value 0 beside it
+abbrev pub answerOf : Outcome ℕ → Answer
+answerOf (answers n) = answeredWith n
+answerOf (refused n) = refusedWith n
+
+-- the value: 0 for done
+abbrev pub doneValue : Outcome (Unit {0}) → Outcome ℕ
+doneValue (answers u) = answers 0
+doneValue (refused n) = refused n
+
+-- 1 or 0 for yes or no and for changed or same
+abbrev pub testValue : Outcome Bool → Outcome ℕ
+testValue (answers true) = answers 1
+testValue (answers false) = answers 0
+testValue (refused n) = refused n
+
+-- each enum as the struct
+abbrev pub checkedAnswer : Checked → Answer
+checkedAnswer c = answerOf (doneValue (checkedIs c))
+
+abbrev pub askedAnswer : Asked → Answer
+askedAnswer a = answerOf (testValue (askedIs a))
+
+abbrev pub visitedAnswer : Visited → Answer
+visitedAnswer v = answerOf (testValue (visitedIs v))
+
+abbrev pub filledAnswer : Filled → Answer
+filledAnswer f = answerOf (doneValue (filledIs f))
+
+abbrev pub costAnswer : Cost → Answer
+costAnswer c = answerOf (costIs c)
+
+abbrev pub lengthAnswer : Length → Answer
+lengthAnswer l = answerOf (lengthIs l)
+
+-- an answer that the library call's promise allows, as the struct
+pub record Says {A : Type 0} (Promise : A → Type 0) (shows : A → Answer) (x : Answer) : Type 0 where
+  pub said : A
+  pub promise : Promise said
+  pub shown : x ≡ shows said

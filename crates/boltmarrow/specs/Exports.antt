@@ -1,9 +1,12 @@
 -- What an exported call answers: the library call's answer, as a struct of a refusal and a value.
 use mathlib.Core.Bool.{Bool, true, false}
+use mathlib.Core.List.{List}
 use mathlib.Core.Path.{_≡_}
 use Prim.Native.Nat.{ℕ}
+use lib.ListN.{length}
+use Rattle.grammar.specs.Flat.{Flat, at}
 use Rattle.grammar.specs.Outcome.{Outcome, answers, refused}
-use Rattle.grammar.specs.Production.{checkedIs}
+use Rattle.grammar.specs.Production.{checkedIs, productionOf}
 use Rattle.grammar.specs.declared.Checked.{Checked}
 use Rattle.tables.specs.Answers.{askedIs, visitedIs, filledIs}
 use Rattle.tables.specs.declared.Asked.{Asked}
@@ -14,6 +17,7 @@ use Rattle.costs.specs.declared.Cost.{Cost}
 use Rattle.sentences.specs.Query.{lengthIs}
 use Rattle.sentences.specs.declared.Length.{Length}
 use Rattle.boltmarrow.specs.declared.Answer.{Answer}
+use Rattle.boltmarrow.specs.declared.Stretch.{Stretch}
 
 abbrev pub answeredWith : ℕ → Answer
 answeredWith n = record { refusal = 0; value = n }
@@ -61,3 +65,16 @@ pub record Says {A : Type 0} (Promise : A → Type 0) (shows : A → Answer) (x 
   pub said : A
   pub promise : Promise said
   pub shown : x ≡ shows said
+
+-- the number of a refusal, 0 where there is none
+abbrev pub refusalOf : {A : Type 0} → Outcome A → ℕ
+refusalOf (answers x) = 0
+refusalOf (refused n) = n
+
+-- a production's stretch: where it starts in the symbol list, and its length; all 0 beside a refusal
+abbrev pub stretchAt : ℕ → Outcome (List ℕ) → Stretch
+stretchAt from (answers xs) = record { refusal = 0; from = from; len = length xs }
+stretchAt from (refused n) = record { refusal = n; from = 0; len = 0 }
+
+abbrev pub stretchOf : Flat → ℕ → Stretch
+stretchOf g p = stretchAt (at (g .starts) p) (productionOf g p)

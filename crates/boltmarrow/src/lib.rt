@@ -4,13 +4,15 @@ use grammar::Checked;
 use grammar::PIdx;
 use grammar::RIdx;
 use grammar::TIdx;
+use grammar::inner::start_at;
+use grammar::inner::wide;
 use sentences::Length;
 use tables::Asked;
 use tables::Filled;
 use tables::Visited;
 ghost use mathlib.Core.Path.{_≡_};
 ghost use Rattle.grammar.specs.Flat.{flat};
-ghost use Rattle.grammar.specs.Production.{checkedIs, checkOf};
+ghost use Rattle.grammar.specs.Production.{checkedIs, checkOf, lengthIs};
 ghost use Rattle.tables.specs.Answers.{askedIs};
 ghost use Rattle.tables.specs.Queries.{isSetOf, isRuleSetOf};
 ghost use Rattle.firsts.specs.Calls.{Clear as FirstClear, Visit as FirstVisit, Fill as FirstFill};
@@ -19,7 +21,7 @@ ghost use Rattle.costs.specs.Calls.{ClearProductive, VisitProductive, FillProdu
 ghost use Rattle.costs.specs.Query.{MinSentenceCost};
 ghost use Rattle.follows.specs.Calls.{Clear as FollowClear, Visit as FollowVisit, Fill as FollowFill};
 ghost use Rattle.sentences.specs.Query.{MinSentence};
-ghost use Rattle.boltmarrow.specs.Exports.{checkedAnswer, askedAnswer, visitedAnswer, filledAnswer, costAnswer, lengthAnswer, Says};
+ghost use Rattle.boltmarrow.specs.Exports.{checkedAnswer, askedAnswer, visitedAnswer, filledAnswer, costAnswer, lengthAnswer, refusalOf, stretchOf, Says};
 
 // What an exported call answers: `refusal` is 0 where it answered, else document 01's number; `value` is
 // 0 for done, 1 or 0 for yes or no and for changed or same, else the number; 0 beside a refusal.
@@ -27,6 +29,24 @@ ghost use Rattle.boltmarrow.specs.Exports.{checkedAnswer, askedAnswer, v
 pub struct Answer {
     pub refusal: u32,
     pub value: u32,
+}
+
+// Where a production stands in the symbol list; all 0 beside a refusal.
+#[repr(C)]
+pub struct Stretch {
+    pub refusal: u32,
+    pub from: u32,
+    pub len: u32,
+}
+
+// The number of a refusal of `production_len`.
+fn length_refusal(l: grammar::Length) -> u32
+    ensures { λ r. ⌜ r ≡ refusalOf (lengthIs l) ⌝ }
+{
+    match l {
+        grammar::Length::Is(_) => 0,
+        grammar::Length::Refused(n) => n as u32,
+    }
 }
 
 fn checked(c: Checked) -> Answer
@@ -139,6 +159,34 @@ pub extern "C" fn boltmarrow_check(
     ensures { λ r. ⌜ Says (λ a. checkedIs a ≡ checkOf (flat rules (now (owners .entry)) (now (starts .entry)) (now (symbols .entry)) (now (costs .entry)))) checkedAnswer r ⌝ }
 {
     checked(grammar::check(rules, owners, starts, symbols, costs))
+}
+
+// Where a production's symbols stand in the symbol list, and how many they are. Refusals 1 to 6, 11.
+#[no_mangle]
+pub extern "C" fn boltmarrow_production(
+    rules: u16,
+    owners: &[u16],
+    starts: &[u16],
+    symbols: &[u16],
+    costs: &[u8],
+    prod: u16,
+) -> Stretch
+    ensures { λ r. ⌜ r ≡ stretchOf (flat rules (now (owners .entry)) (now (starts .entry)) (now (symbols .entry)) (now (costs .entry))) prod ⌝ }
+{
+    let l = grammar::production_len(rules, owners, starts, symbols, costs, PIdx(prod));
+    let grammar::Length::Is(n) = l else {
+        return Stretch {
+            refusal: length_refusal(l),
+            from: 0,
+            len: 0,
+        };
+    };
+    let from = start_at(starts, wide(prod));
+    Stretch {
+        refusal: 0,
+        from: from as u32,
+        len: n as u32,
+    }
 }
 
 // Whether a rule is marked for a token in a table of R rows. Refusals 1 to 7, 9, 10.

@@ -1,0 +1,154 @@
+/* Boltmarrow: FIRST, EMPTY, FOLLOW, paths, minimum costs and a cheapest sentence of a flat grammar.
+ *
+ * A grammar is R rules (`rules`); owners (P numbers); starts (P+1 numbers); symbols (N numbers);
+ * token costs (T bytes). P, N and T are the lists' lengths. Production p is symbols starts[p] up
+ * to, without, starts[p+1]. A symbol below 32768 is a token, otherwise rule (value - 32768).
+ * Token T-1 is eof, rule 0 the start.
+ *
+ * Every call takes arbitrary lists and numbers, checks them itself, ends, and answers or refuses.
+ * The lists of one call must not overlap where the call writes; a list of length 0 may have any
+ * pointer that is not null and is aligned.
+ *
+ * Tables. A mark table (FIRST, FOLLOW): R rows of (T+31)/32 words, token t is bit t%32 of word
+ * t/32. EMPTY and PRODUCTIVE: one row of (R+31)/32 words, by rule. COST and lengths: R numbers.
+ *
+ * Refusals:
+ *   1  R, T, P or N outside its limits (R 2..512, T 1..512, P 2..4096, N 1..16384)
+ *   2  starts not P+1 long, first not 0, last not N, or falling somewhere
+ *   3  an owner is R or more
+ *   4  a rule owns no production
+ *   5  a token symbol is T-1 or more, or a rule symbol's rule is R or more
+ *   6  rule 0 owns other than one production, that production is not one rule symbol, or some
+ *      production holds rule 0
+ *   7  a lent table is not of its exact length
+ *   8  FOLLOW mode other than 1 or 2
+ *   9, 10, 11  rule number R or more, token number T or more, production number P or more
+ *  12  the rule asked for has no sentence
+ *  13  it has one, but none costs 65535 or less
+ *  14  the choice is circular
+ *  15  the sentence is longer than 65535 or than the room lent
+ *  20  file empty, not whole blocks, or over 98 blocks
+ *  21  a block's check differs
+ *  22  a block's number is not its place
+ *  23  other than the blocks due, or a spare payload byte not zero
+ *
+ * The lowest number due is given (the file reader's order is 7, 20, 21, 22, 1, 23, 2 to 6). A
+ * refusal leaves lent memory as found, but for what a call's line says.
+ */
+#ifndef BOLTMARROW_H
+#define BOLTMARROW_H
+
+#include <stddef.h>
+#include <stdint.h>
+
+#ifdef __cplusplus
+extern "C" {
+#endif
+
+/* refusal 0: answered; value 0 for done, 1 or 0 for yes or no and for changed or same, else the
+ * number. Beside a refusal the value is 0. */
+typedef struct {
+    uint32_t refusal;
+    uint32_t value;
+} boltmarrow_answer;
+
+/* where a production's symbols stand in the symbol list, and how many; all 0 beside a refusal */
+typedef struct {
+    uint32_t refusal;
+    uint32_t from;
+    uint32_t len;
+} boltmarrow_stretch;
+
+/* the counts of a grammar read from a file; all 0 beside a refusal */
+typedef struct {
+    uint32_t refusal;
+    uint32_t rules;
+    uint32_t tokens;
+    uint32_t prods;
+    uint32_t symbols;
+} boltmarrow_counts;
+
+/* the five parameters of a grammar */
+#define BOLTMARROW_GRAMMAR                                                                         \
+    uint16_t rules, const uint16_t *owners, size_t owners_len, const uint16_t *starts,             \
+        size_t starts_len, const uint16_t *symbols, size_t symbols_len, const uint8_t *costs,      \
+        size_t costs_len
+
+/* The lowest refusal due of 1 to 6. */
+boltmarrow_answer boltmarrow_check(BOLTMARROW_GRAMMAR);
+
+/* A production's stretch of the symbol list. Refusals 1 to 6, 11. */
+boltmarrow_stretch boltmarrow_production(BOLTMARROW_GRAMMAR, uint16_t prod);
+
+/* Whether a rule is marked for a token in FIRST or FOLLOW. Refusals 1 to 7, 9, 10. */
+boltmarrow_answer boltmarrow_mark(BOLTMARROW_GRAMMAR, const uint32_t *table, size_t table_len,
+                                  uint16_t rule, uint16_t token);
+
+/* Whether a rule is marked in EMPTY or PRODUCTIVE. Refusals 1 to 7, 9. */
+boltmarrow_answer boltmarrow_rule_mark(BOLTMARROW_GRAMMAR, const uint32_t *table, size_t table_len,
+                                       uint16_t rule);
+
+/* FIRST and EMPTY: set to zero; one production's step (changed or same); the defined tables,
+ * whatever was there. Refusals 1 to 7; visit 11 too. */
+boltmarrow_answer boltmarrow_first_clear(BOLTMARROW_GRAMMAR, uint32_t *first, size_t first_len,
+                                         uint32_t *empty, size_t empty_len);
+boltmarrow_answer boltmarrow_first_visit(BOLTMARROW_GRAMMAR, uint16_t prod, uint32_t *first,
+                                         size_t first_len, uint32_t *empty, size_t empty_len);
+boltmarrow_answer boltmarrow_first_fill(BOLTMARROW_GRAMMAR, uint32_t *first, size_t first_len,
+                                        uint32_t *empty, size_t empty_len);
+
+/* Whether there is a path, of at least one production step, between two rules. Refusals 1 to 6, 9. */
+boltmarrow_answer boltmarrow_has_path(BOLTMARROW_GRAMMAR, uint16_t from, uint16_t to);
+
+/* PRODUCTIVE, as for FIRST. Refusals 1 to 7; visit 11 too. */
+boltmarrow_answer boltmarrow_productive_clear(BOLTMARROW_GRAMMAR, uint32_t *productive,
+                                              size_t productive_len);
+boltmarrow_answer boltmarrow_productive_visit(BOLTMARROW_GRAMMAR, uint16_t prod,
+                                              uint32_t *productive, size_t productive_len);
+boltmarrow_answer boltmarrow_productive_fill(BOLTMARROW_GRAMMAR, uint32_t *productive,
+                                             size_t productive_len);
+
+/* COST: cleared is 65536, none known; else as for FIRST. Refusals 1 to 7; visit 11 too. */
+boltmarrow_answer boltmarrow_cost_clear(BOLTMARROW_GRAMMAR, uint32_t *cost, size_t cost_len);
+boltmarrow_answer boltmarrow_cost_visit(BOLTMARROW_GRAMMAR, uint16_t prod, uint32_t *cost,
+                                        size_t cost_len);
+boltmarrow_answer boltmarrow_cost_fill(BOLTMARROW_GRAMMAR, uint32_t *cost, size_t cost_len);
+
+/* The least cost of a sentence of a rule. Refusals 1 to 7, 9; then both tables are filled, and 12
+ * or 13 may follow. */
+boltmarrow_answer boltmarrow_min_sentence_cost(BOLTMARROW_GRAMMAR, uint16_t rule,
+                                               uint32_t *productive, size_t productive_len,
+                                               uint32_t *cost, size_t cost_len);
+
+/* FOLLOW, mode 1 (the crate) or 2 (corrected). A clear leaves rule 0 with eof; a visit reads FIRST
+ * and EMPTY, which should be filled; a fill fills FIRST and EMPTY too. Refusals 1 to 7; visit 8 and
+ * 11, fill 8 too. */
+boltmarrow_answer boltmarrow_follow_clear(BOLTMARROW_GRAMMAR, uint32_t *follow, size_t follow_len);
+boltmarrow_answer boltmarrow_follow_visit(BOLTMARROW_GRAMMAR, uint16_t mode, uint16_t prod,
+                                          uint32_t *follow, size_t follow_len,
+                                          const uint32_t *first, size_t first_len,
+                                          const uint32_t *empty, size_t empty_len);
+boltmarrow_answer boltmarrow_follow_fill(BOLTMARROW_GRAMMAR, uint16_t mode, uint32_t *follow,
+                                         size_t follow_len, uint32_t *first, size_t first_len,
+                                         uint32_t *empty, size_t empty_len);
+
+/* Writes the cheapest sentence of a rule, each rule replaced by its first choice, to the front of
+ * `out`; the answer is its length. Refusals 1 to 7, 9; then the three tables are filled, and 12 to
+ * 15 may follow, which leave `out` as found. `out` is room of any length. */
+boltmarrow_answer boltmarrow_min_sentence(BOLTMARROW_GRAMMAR, uint16_t rule, uint32_t *productive,
+                                          size_t productive_len, uint32_t *cost, size_t cost_len,
+                                          uint32_t *lengths, size_t lengths_len, uint16_t *out,
+                                          size_t out_len);
+
+/* Reads a block file into lists of 4096, 4097, 16384 and 512, else 7. Fills the front of each and
+ * keeps the rest, also when 2 to 6 follow; with 7, 20, 21, 22, 1 and 23 all is as found. */
+boltmarrow_counts boltmarrow_read_blocks(const uint8_t *file, size_t file_len, uint16_t *owners,
+                                         size_t owners_len, uint16_t *starts, size_t starts_len,
+                                         uint16_t *symbols, size_t symbols_len, uint8_t *costs,
+                                         size_t costs_len);
+
+#ifdef __cplusplus
+}
+#endif
+
+#endif

@@ -1,0 +1,4 @@
+pub mod Appending
+pub mod Copying
+pub mod Decimal
+pub mod Sets

@@ -1,0 +1,5 @@
+pub mod Text
+pub mod Line
+pub mod Append
+pub mod Calls
+pub mod Says

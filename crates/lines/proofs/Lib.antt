@@ -2,3 +2,4 @@ pub mod Appending
 pub mod Copying
 pub mod Decimal
 pub mod Sets
+pub mod Fields

@@ -35,13 +35,21 @@ priced (amount n) = decimal n
 priced none = noneWord
 priced dear = dearWord
 
+-- the last field: an entry of at most 65535 is the cost; else `dear` if the rule is marked PRODUCTIVE, and `none` if not
+unfoldable pub priceOf : Bool → ℕ → Price
+priceOf productive n = cond (leb n 65535) (amount n) (cond productive dear none)
+
 -- number and EMPTY, each with the comma after it: 44 is ','
 unfoldable pub frontOf : ℕ → Bool → List ℕ
 frontOf r e = decimal r ++ (44 ∷ flag e ∷ 44 ∷ [])
 
--- FIRST and FOLLOW, each with the comma after it: rising numbers, one space between, nothing for an empty set
+-- a set: rising numbers, one space between, nothing for an empty set; and the comma after it
+unfoldable pub rowWith : List ℕ → List ℕ
+rowWith ns = spaced ns ++ (44 ∷ [])
+
+-- FIRST and FOLLOW
 unfoldable pub setsOf : (first follow : List ℕ) → List ℕ
-setsOf first follow = (spaced first ++ (44 ∷ [])) ++ (spaced follow ++ (44 ∷ []))
+setsOf first follow = rowWith first ++ rowWith follow
 
 -- the cost, and the line feed, 10, in which each line ends
 unfoldable pub backOf : Price → List ℕ

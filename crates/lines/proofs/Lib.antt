@@ -3,3 +3,5 @@ pub mod Copying
 pub mod Decimal
 pub mod Sets
 pub mod Fields
+pub mod Length
+pub mod Writing

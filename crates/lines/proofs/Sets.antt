@@ -15,7 +15,7 @@ use Rattle.lines.specs.Append.{Room, Appended, added, Row, rowOf}
 use Rattle.lines.proofs.Appending.{appended-long, appended-none, appended-then, room-front, room-back}
 
 -- whether a list has numbers
-abbrev any : List ℕ → Bool
+abbrev pub any : List ℕ → Bool
 any [] = false
 any (n ∷ ns) = true
 

@@ -5,3 +5,4 @@ pub mod Sets
 pub mod Fields
 pub mod Length
 pub mod Writing
+pub mod Calling

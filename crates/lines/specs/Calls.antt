@@ -1,9 +1,9 @@
 -- The public calls, each with its refusals in order.
-use mathlib.Core.Bool.{Bool, not, _||_}
+use mathlib.Core.Bool.{_||_}
 use mathlib.Core.List.{List, _++_}
 use mathlib.Core.Path.{_≡_}
 use Prim.Native.Nat.{ℕ}
-use lib.Dec.{eqb, leb}
+use lib.Dec.{leb}
 use lib.ListN.{length, drop}
 use Rattle.grammar.specs.Flat.{Flat}
 use Rattle.grammar.specs.Outcome.{Outcome, answers, refused, unless}
@@ -12,16 +12,12 @@ use Rattle.tables.specs.Call.{Call}
 use Rattle.lines.specs.declared.Written.{Written}
 use Rattle.lines.specs.declared.Written.the-variants.{Bytes, Refused}
 use Rattle.lines.specs.Line.{lineOf, headingOf, refusedOf}
-use Rattle.lines.specs.Lent.{Tables, tablesWrong, entryOf}
+use Rattle.lines.specs.Lent.{Tables, tablesWrong, outWrong, entryOf}
 
 -- the cases of `Written`: how many bytes the line has, or the refusal
 abbrev pub writtenIs : Written → Outcome ℕ
 writtenIs (Bytes n) = answers n
 writtenIs (Refused n) = refused n
-
--- 7: the lent room is not 4096 bytes long
-unfoldable pub outWrong : List ℕ → Bool
-outWrong out = not (eqb (length out) 4096)
 
 -- the bytes stand at the front of `out`, the rest is as found, and the answer is their count
 pub record Writes (bytes out : List ℕ) (said : Outcome ℕ) (to : List ℕ) : Type 0 where

@@ -1,8 +1,9 @@
 -- The tables that a line is written from, and what they hold of a rule.
-use mathlib.Core.Bool.{Bool, _||_}
+use mathlib.Core.Bool.{Bool, not, _||_}
 use mathlib.Core.List.{List}
 use mathlib.Core.Path.{_≡_}
 use Prim.Native.Nat.{ℕ, _*_, _≤_, _<_}
+use lib.Dec.{eqb}
 use lib.ListN.{length}
 use Rattle.grammar.specs.Flat.{at}
 use Rattle.rows.specs.Marks.{mark}
@@ -24,6 +25,10 @@ tables empty first follow productive cost = record { empty = empty; first = firs
 -- 7: a lent table is not of its exact length
 unfoldable pub tablesWrong : (R T : ℕ) → Tables → Bool
 tablesWrong R T l = rowWrong R (l .empty) || (tableWrong R T (l .first) || (tableWrong R T (l .follow) || (rowWrong R (l .productive) || numbersWrong R (l .cost))))
+
+-- 7: the lent room is not 4096 bytes long
+unfoldable pub outWrong : List ℕ → Bool
+outWrong out = not (eqb (length out) 4096)
 
 -- what the tables hold of rule r, of R, over the tokens below T
 abbrev pub entryOf : (R T r : ℕ) → Tables → Entry

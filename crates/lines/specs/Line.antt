@@ -60,7 +60,7 @@ unfoldable pub lineOf : Entry → List ℕ
 lineOf e = frontOf (e .number) (e .empty) ++ (setsOf (e .first) (e .follow) ++ backOf (e .cost))
 
 -- the fixed heading `rule,empty,first,follow,cost`, and its line feed
-unfoldable pub headingOf : List ℕ
+abbrev pub headingOf : List ℕ
 headingOf = 114 ∷ 117 ∷ 108 ∷ 101 ∷ 44 ∷ 101 ∷ 109 ∷ 112 ∷ 116 ∷ 121 ∷ 44 ∷ 102 ∷ 105 ∷ 114 ∷ 115 ∷ 116 ∷ 44 ∷ 102 ∷ 111 ∷ 108 ∷ 108 ∷ 111 ∷ 119 ∷ 44 ∷ 99 ∷ 111 ∷ 115 ∷ 116 ∷ 10 ∷ []
 
 -- the word `refused ` and its space

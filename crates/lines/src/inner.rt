@@ -1,14 +1,17 @@
 // Below the public calls: each appends its bytes from place `at` of a lent buffer on, and answers the place after them.
 use costs::inner::entry_at;
 use rows::inner::is_set;
+use tables::inner::numbers_wrong;
+use tables::inner::row_wrong;
+use tables::inner::table_wrong;
 use tables::inner::words_for;
 ghost use mathlib.Core.Path.{_≡_};
 ghost use mathlib.Core.List.{_∷_, []};
-ghost use Prim.Native.Nat.{_+_, _<_};
+ghost use Prim.Native.Nat.{_≤_, _<_};
 ghost use Rattle.lines.specs.Text.{decimal, spaced, digit as digitOf};
 ghost use Rattle.lines.specs.Line.{flag as flagOf, frontOf, rowWith, setsOf, priceOf, priced, backOf, lineOf};
 ghost use Rattle.lines.specs.Append.{Room, Appended, added, Row, rowOf};
-ghost use Rattle.lines.specs.Lent.{tables, entryOf, Ready};
+ghost use Rattle.lines.specs.Lent.{tables, tablesWrong, outWrong, entryOf, Ready};
 
 fn put(byte: u8, out: &mut [u8], at: usize) -> usize
     requires { ⌜ Room (now out) at (byte ∷ []) ⌝ }
@@ -175,4 +178,37 @@ pub fn write(
     let b = sets(first, follow, words_for(tokens), r, tokens, out, a);
     let on = is_set(productive, w, 0, r);
     back(on, entry_at(cost, r), out, b)
+}
+
+// Refusal 7 for the five tables.
+pub fn tables_wrong(
+    rules: usize,
+    tokens: usize,
+    empty: &[u32],
+    first: &[u32],
+    follow: &[u32],
+    productive: &[u32],
+    cost: &[u32],
+) -> bool
+    requires { ⌜ (rules ≤ 512) × (tokens ≤ 512) ⌝ }
+    ensures { λ r. ⌜ r ≡ tablesWrong rules tokens (tables (now (empty .entry)) (now (first .entry)) (now (follow .entry)) (now (productive .entry)) (now (cost .entry))) ⌝ }
+{
+    row_wrong(rules, empty)
+        | (table_wrong(rules, tokens, first)
+            | (table_wrong(rules, tokens, follow)
+                | (row_wrong(rules, productive) | numbers_wrong(rules, cost))))
+}
+
+// Refusal 7 for the room.
+pub fn out_wrong(out: &[u8]) -> bool
+    ensures { λ r. ⌜ r ≡ outWrong (now (out .entry)) ⌝ }
+{
+    out.len() != 4096
+}
+
+pub fn count(n: usize) -> u16
+    requires { ⌜ n ≤ 4096 ⌝ }
+    ensures { λ r. ⌜ r ≡ n ⌝ }
+{
+    n as u16
 }

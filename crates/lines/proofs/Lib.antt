@@ -6,3 +6,7 @@ pub mod Fields
 pub mod Length
 pub mod Writing
 pub mod Calling
+pub mod Determined
+pub mod Digits
+pub mod Members
+pub mod Saying

@@ -35,7 +35,7 @@ spaced-snoc (n ∷ ns) x = ap (λ z. decimal n ++ z) (later-snoc ns x) ∙ sym (
 
 module _ (f : ℕ → Bool) where
   -- one number more
-  members-more : (n : ℕ) (b : Bool) → f n ≡ b → members (suc n) f ≡ cond b (members n f ++ (n ∷ [])) (members n f)
+  pub members-more : (n : ℕ) (b : Bool) → f n ≡ b → members (suc n) f ≡ cond b (members n f ++ (n ∷ [])) (members n f)
   unfolding members
   members-more n b e = rw e
 

@@ -1,8 +1,10 @@
 -- Text as bytes: numbers in decimal, and numbers with spaces between.
 use mathlib.Core.Bool.{Bool, cond}
-use mathlib.Core.List.{List, [], _∷_, _++_}
-use Prim.Native.Nat.{ℕ, zero, suc, _+_, _/_, _%_}
+use mathlib.Core.List.{List, [], _∷_, _++_, List·Memᴰ}
+use mathlib.Core.Path.{_≡_}
+use Prim.Native.Nat.{ℕ, zero, suc, _+_, _-_, _*_, _/_, _%_, _≤_, _<_}
 use lib.Dec.{ltb}
+use lib.ListN.{length, getD}
 
 -- the byte of a digit: 48 is '0'
 abbrev pub digit : ℕ → ℕ
@@ -17,10 +19,36 @@ places (suc k) n = cond (ltb n 10) (digit n ∷ []) (places k (n / 10) ++ (digit
 unfoldable pub decimal : ℕ → List ℕ
 decimal n = places n n
 
+-- the number that decimal digits stand for, after those of value n
+abbrev pub valueFrom : ℕ → List ℕ → ℕ
+valueFrom n [] = n
+valueFrom n (b ∷ bs) = valueFrom (n * 10 + (b - 48)) bs
+
+-- the number that decimal digits stand for
+abbrev pub value : List ℕ → ℕ
+value bs = valueFrom 0 bs
+
+-- a byte is a digit
+pub record IsDigit (b : ℕ) : Type 0 where
+  pub low : 48 ≤ b
+  pub high : b ≤ 57
+
+-- bytes are the decimal number n, without leading zeros
+pub record IsDecimal (n : ℕ) (bs : List ℕ) : Type 0 where
+  pub some : 1 ≤ length bs
+  pub digits : (b : ℕ) → List·Memᴰ b bs → IsDigit b
+  pub is : value bs ≡ n
+  pub leading : getD bs 0 0 ≡ 48 → n ≡ 0
+
 -- the numbers below n that pass, rising
 unfoldable pub members : ℕ → (ℕ → Bool) → List ℕ
 members zero f = []
 members (suc n) f = cond (f n) (members n f ++ (n ∷ [])) (members n f)
+
+-- each number is below those after it
+pub data Rising : List ℕ → Type 0 where
+  none : Rising []
+  next : {n : ℕ} {ns : List ℕ} → ((m : ℕ) → List·Memᴰ m ns → n < m) → Rising ns → Rising (n ∷ ns)
 
 -- each number after one space
 unfoldable pub later : List ℕ → List ℕ

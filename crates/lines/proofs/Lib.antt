@@ -10,3 +10,5 @@ pub mod Determined
 pub mod Digits
 pub mod Members
 pub mod Saying
+pub mod Report
+pub mod Printing

@@ -34,6 +34,10 @@ room-front ws a b from r = record { fits = omega (arith, r .fits, length-append 
 pub room-back : (ws to a b : List ℕ) (from n : ℕ) → Room ws from (a ++ b) → Appended ws from a to n → Room to n b
 room-back ws to a b from n r x = record { fits = omega (arith, r .fits, length-append a b, x .next, appended-long x) }
 
+-- and for anything as short
+pub room-after : (ws all to a more : List ℕ) (from n : ℕ) → Room ws from all → Appended ws from a to n → length a + length more ≤ length all → Room to n more
+room-after ws all to a more from n r x l = record { fits = omega (arith, r .fits, x .next, appended-long x) }
+
 -- one byte
 pub put-in : (ws : List ℕ) (from byte : ℕ) → Room ws from (byte ∷ []) → from < length ws
 put-in ws from byte r = omega (arith, r .fits)

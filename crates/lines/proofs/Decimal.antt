@@ -10,7 +10,7 @@ use lib.ListN.{length, length-append}
 use borrow.Author.Tests.{lt-ltb, le-ltb}
 use Rattle.lines.specs.Text.{digit, places, decimal}
 use Rattle.lines.specs.Append.{Room, Appended}
-use Rattle.lines.proofs.Appending.{appended-then, room-front, room-back}
+use Rattle.lines.proofs.Appending.{appended-then, room-after}
 
 places-one : (k n : ℕ) → n < 10 → places k n ≡ digit n ∷ []
 unfolding places
@@ -38,28 +38,37 @@ unfolding decimal places
 decimal-more zero l = absurd (omega arith)
 decimal-more (suc n) l = rw (le-ltb (suc n) 10 l) (ap (λ ds. ds ++ (digit (suc n % 10) ∷ [])) (places-same n (suc n / 10) (suc n / 10) (omega arith) (omega arith)))
 
+-- a number has a digit, and a smaller one no more digits
+pub decimal-some : (n : ℕ) → 1 ≤ length (decimal n)
+decimal-some n = elim (decLt n 10) [
+  | yes l ↦ omega (arith, ap length (decimal-one n l))
+  | no l ↦ let z : 10 ≤ n = omega arith in omega (arith, ap length (decimal-more n z), length-append (decimal (n / 10)) (digit (n % 10) ∷ []))
+]
+
+pub decimal-less : (k m n : ℕ) → m ≤ k → m ≤ n → length (decimal m) ≤ length (decimal n)
+decimal-less zero m n a b = let z : m < 10 = omega arith in omega (arith, ap length (decimal-one m z), decimal-some n)
+decimal-less (suc k) m n a b = elim (decLt m 10) [
+  | yes l ↦ omega (arith, ap length (decimal-one m l), decimal-some n)
+  | no l ↦
+      let x : 10 ≤ m = omega arith in
+      let y : 10 ≤ n = omega arith in
+      omega (arith, ap length (decimal-more m x), ap length (decimal-more n y), length-append (decimal (m / 10)) (digit (m % 10) ∷ []), length-append (decimal (n / 10)) (digit (n % 10) ∷ []), decimal-less k (m / 10) (n / 10) (omega arith) (omega arith))
+]
+
 -- `number`
-module _ (ws : List ℕ) (from n d : ℕ) where
-  module _ (l : n < 10) (e : d ≡ digit n) where
-    is-one : decimal n ≡ d ∷ []
-    is-one = decimal-one n l ∙ ap (λ x. x ∷ []) (sym e)
+module _ (ws : List ℕ) (from n : ℕ) where
+  pub one-room : (d : ℕ) → Room ws from (decimal n) → Room ws from (d ∷ [])
+  one-room d r = record { fits = omega (arith, r .fits, decimal-some n) }
 
-    pub one-room : Room ws from (decimal n) → Room ws from (d ∷ [])
-    one-room r = subst (λ ds. Room ws from ds) is-one r
+  pub one-made : (d k : ℕ) → n < k → k ≤ 10 → d ≡ digit n → (to : List ℕ) (m : ℕ) → Appended ws from (d ∷ []) to m → Appended ws from (decimal n) to m
+  one-made d k l h e to m x = let z : n < 10 = omega arith in subst (λ ds. Appended ws from ds to m) (sym (decimal-one n z ∙ ap (λ x. x ∷ []) (sym e))) x
 
-    pub one-made : (to : List ℕ) (m : ℕ) → Appended ws from (d ∷ []) to m → Appended ws from (decimal n) to m
-    one-made to m x = subst (λ ds. Appended ws from ds to m) (sym is-one) x
+  pub less-room : (m : ℕ) → m ≤ n → Room ws from (decimal n) → Room ws from (decimal m)
+  less-room m l r = record { fits = omega (arith, r .fits, decimal-less m m n (omega arith) l) }
 
-  module _ (l : 10 ≤ n) where
-    pub more-room : Room ws from (decimal n) → Room ws from (decimal (n / 10))
-    more-room r = room-front ws (decimal (n / 10)) (digit (n % 10) ∷ []) from (subst (λ ds. Room ws from ds) (decimal-more n l) r)
+  module _ (l : 10 ≤ n) (mid : List ℕ) (next : ℕ) (x : Appended ws from (decimal (n / 10)) mid next) (d : ℕ) where
+    pub last-room : Room ws from (decimal n) → Room mid next (d ∷ [])
+    last-room r = room-after ws (decimal n) mid (decimal (n / 10)) (d ∷ []) from next r x (omega (arith, ap length (decimal-more n l), length-append (decimal (n / 10)) (digit (n % 10) ∷ [])))
 
-    module _ (mid : List ℕ) (next : ℕ) (x : Appended ws from (decimal (n / 10)) mid next) (e : d ≡ digit (n % 10)) where
-      is-more : decimal n ≡ decimal (n / 10) ++ (d ∷ [])
-      is-more = decimal-more n l ∙ ap (λ z. decimal (n / 10) ++ (z ∷ [])) (sym e)
-
-      pub last-room : Room ws from (decimal n) → Room mid next (d ∷ [])
-      last-room r = room-back ws mid (decimal (n / 10)) (d ∷ []) from next (subst (λ ds. Room ws from ds) is-more r) x
-
-      pub last-made : (to : List ℕ) (m : ℕ) → Appended mid next (d ∷ []) to m → Appended ws from (decimal n) to m
-      last-made to m y = subst (λ ds. Appended ws from ds to m) (sym is-more) (appended-then x y)
+    pub last-made : d ≡ digit (n % 10) → (to : List ℕ) (m : ℕ) → Appended mid next (d ∷ []) to m → Appended ws from (decimal n) to m
+    last-made e to m y = subst (λ ds. Appended ws from ds to m) (sym (decimal-more n l ∙ ap (λ z. decimal (n / 10) ++ (z ∷ [])) (sym e))) (appended-then x y)

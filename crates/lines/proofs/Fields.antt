@@ -3,12 +3,13 @@ use mathlib.Core.Bool.{Bool, true, false, cond}
 use mathlib.Core.List.{List, [], _∷_, _++_, append-assoc}
 use mathlib.Core.Path.{_≡_, refl, sym, ap, _∙_, subst}
 use Prim.Native.Nat.{ℕ, _+_, _≤_, _<_}
-use lib.Dec.{leb}
+use native.Mathlib.Omega.{arith}
+use lib.ListN.{length, length-append}
 use borrow.Author.Tests.{le-leb, lt-leb}
 use Rattle.lines.specs.Text.{decimal, spaced}
-use Rattle.lines.specs.Line.{flag, frontOf, rowWith, setsOf, priceOf, priced, backOf, noneWord, dearWord}
+use Rattle.lines.specs.Line.{none, dear, flag, frontOf, rowWith, setsOf, priceOf, priced, backOf, noneWord, dearWord}
 use Rattle.lines.specs.Append.{Room, Appended}
-use Rattle.lines.proofs.Appending.{appended-then, room-front, room-back}
+use Rattle.lines.proofs.Appending.{appended-then, room-front, room-back, room-after}
 
 -- two parts, whose sum is known by equation
 module _ (ws : List ℕ) (from : ℕ) (all a b : List ℕ) (e : all ≡ a ++ b) where
@@ -31,8 +32,8 @@ module _ (ns : List ℕ) where
     pub row-front : Room ws from (rowWith ns) → Room ws from (spaced ns)
     row-front = part-front ws from _ (spaced ns) (44 ∷ []) row-is
 
-    pub row-back : (to : List ℕ) (n : ℕ) → Room ws from (rowWith ns) → Appended ws from (spaced ns) to n → Room to n (44 ∷ [])
-    row-back = part-back ws from _ (spaced ns) (44 ∷ []) row-is
+    pub row-back : (to bytes : List ℕ) (n : ℕ) → length bytes ≤ 1 → Room ws from (rowWith ns) → Appended ws from (spaced ns) to n → Room to n bytes
+    row-back to bytes n l r x = room-after ws (rowWith ns) to (spaced ns) bytes from n r x (omega (arith, ap length row-is, length-append (spaced ns) (44 ∷ [])))
 
     pub row-made : (mid to : List ℕ) (n m : ℕ) → Appended ws from (spaced ns) mid n → Appended mid n (44 ∷ []) to m → Appended ws from (rowWith ns) to m
     row-made = parts-made ws from _ (spaced ns) (44 ∷ []) row-is
@@ -59,31 +60,38 @@ module _ (r : ℕ) (e : Bool) (ws : List ℕ) (from : ℕ) where
   unfolding frontOf
   front-is f q = ap (λ z. decimal r ++ (44 ∷ z ∷ 44 ∷ [])) (sym q)
 
-  pub front-number : Room ws from (frontOf r e) → Room ws from (decimal r)
-  front-number = part-front ws from _ (decimal r) _ (front-is (flag e) refl)
+  front-long : length (frontOf r e) ≡ length (decimal r) + 3
+  front-long = omega (arith, ap length (front-is (flag e) refl), length-append (decimal r) (44 ∷ flag e ∷ 44 ∷ []))
 
-  module _ (w1 : List ℕ) (a : ℕ) (room : Room ws from (frontOf r e)) (x : Appended ws from (decimal r) w1 a) where
-    rest : (f : ℕ) → f ≡ flag e → Room w1 a ((44 ∷ []) ++ ((f ∷ []) ++ (44 ∷ [])))
-    rest f q = part-back ws from _ (decimal r) _ (front-is f q) w1 a room x
+  module _ (room : Room ws from (frontOf r e)) where
+    pub front-number : Room ws from (decimal r)
+    front-number = part-front ws from _ (decimal r) _ (front-is (flag e) refl) room
 
-    pub front-comma : Room w1 a (44 ∷ [])
-    front-comma = room-front w1 (44 ∷ []) _ a (rest (flag e) refl)
+    module _ (w1 : List ℕ) (a : ℕ) (x : Appended ws from (decimal r) w1 a) where
+      pub front-comma : (bytes : List ℕ) → length bytes ≤ 1 → Room w1 a bytes
+      front-comma bytes l = room-after ws (frontOf r e) w1 (decimal r) bytes from a room x (omega (arith, front-long))
 
-    module _ (w2 : List ℕ) (b : ℕ) (y : Appended w1 a (44 ∷ []) w2 b) (f : ℕ) (q : f ≡ flag e) where
-      last : Room w2 b ((f ∷ []) ++ (44 ∷ []))
-      last = room-back w1 w2 (44 ∷ []) _ a b (rest f q) y
+      module _ (one w2 : List ℕ) (b : ℕ) (y : Appended w1 a one w2 b) (l : length one ≤ 1) (f : ℕ) where
+        pub front-flag : Room w2 b (f ∷ [])
+        front-flag = room-after ws (frontOf r e) w2 (decimal r ++ one) (f ∷ []) from b room (appended-then x y) (omega (arith, front-long, length-append (decimal r) one))
 
-      pub front-flag : Room w2 b (f ∷ [])
-      front-flag = room-front w2 (f ∷ []) (44 ∷ []) b last
+        module _ (w3 : List ℕ) (c : ℕ) (z : Appended w2 b (f ∷ []) w3 c) where
+          pub front-last : (bytes : List ℕ) → length bytes ≤ 1 → Room w3 c bytes
+          front-last bytes k = room-after ws (frontOf r e) w3 ((decimal r ++ one) ++ (f ∷ [])) bytes from c room (appended-then (appended-then x y) z) (omega (arith, front-long, length-append (decimal r ++ one) (f ∷ []), length-append (decimal r) one))
 
-      module _ (w3 : List ℕ) (c : ℕ) (z : Appended w2 b (f ∷ []) w3 c) where
-        pub front-last : Room w3 c (44 ∷ [])
-        front-last = room-back w2 w3 (f ∷ []) (44 ∷ []) b c last z
-
-        pub front-made : (to : List ℕ) (m : ℕ) → Appended w3 c (44 ∷ []) to m → Appended ws from (frontOf r e) to m
-        front-made to m v = parts-made ws from _ (decimal r) _ (front-is f q) w1 to a m x (appended-then y (appended-then z v))
+  pub front-made : (w1 w2 w3 to : List ℕ) (a b c m f : ℕ) → f ≡ flag e → Appended ws from (decimal r) w1 a → Appended w1 a (44 ∷ []) w2 b → Appended w2 b (f ∷ []) w3 c → Appended w3 c (44 ∷ []) to m → Appended ws from (frontOf r e) to m
+  front-made w1 w2 w3 to a b c m f q x y z v = parts-made ws from _ (decimal r) _ (front-is f q) w1 to a m x (appended-then y (appended-then z v))
 
 -- `price`
+word : (p : Bool) → priced (cond p dear none) ≡ cond p dearWord noneWord
+unfolding priced
+word true = refl
+word false = refl
+
+word-long : (p : Bool) → length (cond p dearWord noneWord) ≡ 4
+word-long true = refl
+word-long false = refl
+
 module _ (p : Bool) (n : ℕ) (ws : List ℕ) (from : ℕ) where
   module _ (l : n ≤ 65535) where
     price-amount : priced (priceOf p n) ≡ decimal n
@@ -97,27 +105,18 @@ module _ (p : Bool) (n : ℕ) (ws : List ℕ) (from : ℕ) where
     amount-made to m x = subst (λ bs. Appended ws from bs to m) (sym price-amount) x
 
   module _ (l : 65535 < n) where
-    module _ (e : p ≡ true) where
-      price-dear : priced (priceOf p n) ≡ dearWord
-      unfolding priceOf priced
-      price-dear = rw (lt-leb n 65535 l, e)
+    price-word : priced (priceOf p n) ≡ cond p dearWord noneWord
+    unfolding priceOf
+    price-word = rw (lt-leb n 65535 l) (word p)
 
-      pub dear-room : Room ws from (priced (priceOf p n)) → Room ws from dearWord
-      dear-room r = subst (λ bs. Room ws from bs) price-dear r
+    pub word-room : (bytes : List ℕ) → length bytes ≤ 4 → Room ws from (priced (priceOf p n)) → Room ws from bytes
+    word-room bytes k r = record { fits = omega (arith, r .fits, ap length price-word, word-long p) }
 
-      pub dear-made : (to : List ℕ) (m : ℕ) → Appended ws from dearWord to m → Appended ws from (priced (priceOf p n)) to m
-      dear-made to m x = subst (λ bs. Appended ws from bs to m) (sym price-dear) x
+    pub dear-made : p ≡ true → (to : List ℕ) (m : ℕ) → Appended ws from dearWord to m → Appended ws from (priced (priceOf p n)) to m
+    dear-made e to m x = subst (λ bs. Appended ws from bs to m) (sym (price-word ∙ rw e)) x
 
-    module _ (e : p ≡ false) where
-      price-none : priced (priceOf p n) ≡ noneWord
-      unfolding priceOf priced
-      price-none = rw (lt-leb n 65535 l, e)
-
-      pub none-room : Room ws from (priced (priceOf p n)) → Room ws from noneWord
-      none-room r = subst (λ bs. Room ws from bs) price-none r
-
-      pub none-made : (to : List ℕ) (m : ℕ) → Appended ws from noneWord to m → Appended ws from (priced (priceOf p n)) to m
-      none-made to m x = subst (λ bs. Appended ws from bs to m) (sym price-none) x
+    pub none-made : p ≡ false → (to : List ℕ) (m : ℕ) → Appended ws from noneWord to m → Appended ws from (priced (priceOf p n)) to m
+    none-made e to m x = subst (λ bs. Appended ws from bs to m) (sym (price-word ∙ rw e)) x
 
 -- `back`
 module _ (p : Bool) (n : ℕ) (ws : List ℕ) (from : ℕ) where
@@ -128,8 +127,8 @@ module _ (p : Bool) (n : ℕ) (ws : List ℕ) (from : ℕ) where
   pub back-price : Room ws from (backOf (priceOf p n)) → Room ws from (priced (priceOf p n))
   back-price = part-front ws from _ (priced (priceOf p n)) (10 ∷ []) back-is
 
-  pub back-feed : (to : List ℕ) (m : ℕ) → Room ws from (backOf (priceOf p n)) → Appended ws from (priced (priceOf p n)) to m → Room to m (10 ∷ [])
-  back-feed = part-back ws from _ (priced (priceOf p n)) (10 ∷ []) back-is
+  pub back-feed : (to bytes : List ℕ) (m : ℕ) → length bytes ≤ 1 → Room ws from (backOf (priceOf p n)) → Appended ws from (priced (priceOf p n)) to m → Room to m bytes
+  back-feed to bytes m l r x = room-after ws (backOf (priceOf p n)) to (priced (priceOf p n)) bytes from m r x (omega (arith, ap length back-is, length-append (priced (priceOf p n)) (10 ∷ [])))
 
   pub back-made : (mid to : List ℕ) (k m : ℕ) → Appended ws from (priced (priceOf p n)) mid k → Appended mid k (10 ∷ []) to m → Appended ws from (backOf (priceOf p n)) to m
   back-made = parts-made ws from _ (priced (priceOf p n)) (10 ∷ []) back-is

@@ -1,10 +1,10 @@
--- Document 01's whole report of G1, from the tables that G1's fills leave.
+-- Document 01's whole report of G1, from words that hold what it says of each rule.
 use mathlib.Core.List.{List, [], _∷_, _++_}
 use mathlib.Core.Path.{_≡_, refl}
 use Prim.Native.Nat.{ℕ}
 use Rattle.rows.specs.Marks.{bit, mark}
 use Rattle.lines.specs.Text.{places, decimal, members, later, spaced}
-use Rattle.lines.specs.Line.{frontOf, rowWith, setsOf, priceOf, priced, backOf, lineOf, headingOf, refusedOf}
+use Rattle.lines.specs.Line.{frontOf, rowWith, setsOf, priceOf, priced, backOf, lineOf, headingOf}
 use Rattle.lines.specs.Lent.{Tables, tables, entryOf}
 
 -- EMPTY of rules 2 and 3; FIRST {0, 2}, {0, 2}, {2}, {1}; FOLLOW {3}, {3}, {0}, {3}; every rule PRODUCTIVE; COST 1, 1, 0, 0

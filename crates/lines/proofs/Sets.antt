@@ -12,7 +12,7 @@ use borrow.Author.Tests.{not-true, not-false}
 use Rattle.rows.specs.Marks.{place, mark}
 use Rattle.lines.specs.Text.{decimal, members, later, spaced}
 use Rattle.lines.specs.Append.{Room, Appended, added, Row, rowOf}
-use Rattle.lines.proofs.Appending.{appended-long, appended-none, appended-then, room-front, room-back}
+use Rattle.lines.proofs.Appending.{appended-long, appended-none, appended-then, room-back, room-after}
 
 -- whether a list has numbers
 abbrev pub any : List ℕ → Bool
@@ -115,12 +115,12 @@ module _ (ws : List ℕ) (from t : ℕ) (on some : Bool) where
       unfolding added
       is-later = rw (not-false on e, not-false some k)
 
-      pub space-room : Room ws from (added on some t) → Room ws from (32 ∷ [])
-      space-room r = room-front ws (32 ∷ []) (decimal t) from (subst (λ bs. Room ws from bs) is-later r)
+      pub space-room : (byte : ℕ) → Room ws from (added on some t) → Room ws from (byte ∷ [])
+      space-room byte r = let q : Room ws from ((32 ∷ []) ++ decimal t) = subst (λ bs. Room ws from bs) is-later r in record { fits = omega (arith, q .fits) }
 
-      module _ (mid : List ℕ) (n : ℕ) (x : Appended ws from (32 ∷ []) mid n) where
+      module _ (mid : List ℕ) (byte n : ℕ) (x : Appended ws from (byte ∷ []) mid n) where
         pub later-room : Room ws from (added on some t) → Room mid n (decimal t)
-        later-room r = room-back ws mid (32 ∷ []) (decimal t) from n (subst (λ bs. Room ws from bs) is-later r) x
+        later-room r = room-after ws (added on some t) mid (byte ∷ []) (decimal t) from n r x (omega (arith, ap length is-later))
 
-        pub later-made : (to : List ℕ) (m : ℕ) → Appended mid n (decimal t) to m → Appended ws from (added on some t) to m
-        later-made to m y = subst (λ bs. Appended ws from bs to m) (sym is-later) (appended-then x y)
+      pub later-made : (mid : List ℕ) (n : ℕ) → Appended ws from (32 ∷ []) mid n → (to : List ℕ) (m : ℕ) → Appended mid n (decimal t) to m → Appended ws from (added on some t) to m
+      later-made mid n x to m y = subst (λ bs. Appended ws from bs to m) (sym is-later) (appended-then x y)

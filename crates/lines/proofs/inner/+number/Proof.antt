@@ -1,6 +1,7 @@
 use borrow.Author.Needs.{needs}
 use Prim.Native.Nat.{ℕ, _<_}
-use Rattle.lines.proofs.Decimal.{one-room, one-made, more-room, last-room, last-made}
+use native.Mathlib.Omega.{arith}
+use Rattle.lines.proofs.Decimal.{one-room, one-made, less-room, last-room, last-made}
 use borrow.Fn.Kinds.{In}
 use borrow.Fn.PlainCycle.{Measures, is, falls, and}
 use Rattle.lines.proofs.inner.number.Reads as number
@@ -68,7 +69,7 @@ number-number-requires : (t : ℕ) → number-lts.Need-number-requires (
   number-below t,
   number.Post,
 ) (number-at t) number.Post
-number-number-requires t c κs = search (needs, more-room)
+number-number-requires t c κs = (omega arith, less-room _ _ _ _ (omega arith) (c .before .before .before .pre .1))
 
 number-digit-requires-2 : (t : ℕ) → number-lts.Need-digit-requires-2 (
   digit-reads.Asked,

@@ -1,4 +1,4 @@
-use Rattle.lines.proofs.Fields.{amount-room, amount-made, dear-room, dear-made, none-room, none-made}
+use Rattle.lines.proofs.Fields.{amount-room, amount-made, word-room, dear-made, none-made}
 use borrow.Author.Needs.{needs}
 use Rattle.lines.proofs.inner.price.Statement.{statement}
 use Rattle.lines.proofs.inner.price.Tie as tie
@@ -16,7 +16,7 @@ slice-aggregate-copy : tie.Need-slice-aggregate-copy
 slice-aggregate-copy c = search needs
 
 copy-requires : tie.Need-copy-requires
-copy-requires c κs = search (needs, dear-room)
+copy-requires c κs = search (needs, word-room)
 
 same-length-2 : tie.Need-same-length-2
 same-length-2 c = search needs
@@ -28,7 +28,7 @@ slice-aggregate-copy-2 : tie.Need-slice-aggregate-copy-2
 slice-aggregate-copy-2 c = search needs
 
 copy-requires-2 : tie.Need-copy-requires-2
-copy-requires-2 c κs = search (needs, none-room)
+copy-requires-2 c κs = search (needs, word-room)
 
 same-length-3 : tie.Need-same-length-3
 same-length-3 c = search needs

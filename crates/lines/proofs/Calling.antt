@@ -26,9 +26,9 @@ use Rattle.lines.specs.Line.{lineOf, refusedWord, refusedOf}
 use Rattle.lines.specs.Append.{Room, Appended}
 use Rattle.lines.specs.Lent.{Tables, tables, tablesWrong, outWrong, entryOf, Ready}
 use Rattle.lines.specs.Calls.{Writes, outDue, lineDue}
-use Rattle.lines.proofs.Appending.{appended-then, room-front, room-back}
-use Rattle.lines.proofs.Fields.{part-front, part-back, parts-made}
-use Rattle.lines.proofs.Length.{line-long, refused-long}
+use Rattle.lines.proofs.Appending.{appended-long, appended-then}
+use Rattle.lines.proofs.Fields.{parts-made}
+use Rattle.lines.proofs.Length.{five-digits, line-long, refused-long}
 
 -- the tests of refusal 7
 pub out-not : (out : List ℕ) → not (eqb (length out) 4096) ≡ outWrong out
@@ -66,35 +66,26 @@ module _ (ws : List ℕ) (x : Bool) (ex : x ≡ outWrong ws) where
     pub out-does : (bytes to : List ℕ) (n k : ℕ) → length bytes ≤ 4096 → Appended ws 0 bytes to n → k ≡ n → Call (outDue ws) (Writes bytes ws) ws (answers k) to
     out-does bytes to n k l y q = call-does (answers k) to (rw (← ex, e)) (writes bytes ws to n k (omega (arith, out-is)) y q)
 
-    -- the three parts of what is printed for a refused file
+    -- what is printed for a refused file: after the word, and after the number
+    module _ (w : ℕ) (small : w < 2 ^ 16) (bytes w1 : List ℕ) (a : ℕ) (y : Appended ws 0 bytes w1 a) (l : length bytes ≤ 8) where
+      pub refused-number : Room w1 a (decimal w)
+      refused-number = record { fits = omega (arith, out-is, appended-long y, y .next, five-digits w (omega arith)) }
+
+      module _ (w2 : List ℕ) (b : ℕ) (z : Appended w1 a (decimal w) w2 b) (more : List ℕ) (k : length more ≤ 1) where
+        pub refused-feed : Room w2 b more
+        refused-feed = record { fits = omega (arith, out-is, appended-long y, appended-long z, y .next, z .next, five-digits w (omega arith)) }
+
+        pub refused-count : (to : List ℕ) (n : ℕ) → Appended w2 b more to n → n ≤ 4096
+        refused-count to n v = omega (arith, y .next, z .next, v .next, five-digits w (omega arith))
+
     module _ (number w : ℕ) (ew : w ≡ number) (small : w < 2 ^ 16) where
       parts : refusedOf number ≡ refusedWord ++ (decimal w ++ (10 ∷ []))
       unfolding refusedOf
       parts = ap (λ n. refusedWord ++ (decimal n ++ (10 ∷ []))) (sym ew)
 
-      short : length (refusedOf number) ≤ 4096
-      short = omega (arith, refused-long number (omega arith))
-
-      module _ (w1 : List ℕ) (a : ℕ) (y : Appended ws 0 refusedWord w1 a) where
-        rest : Room w1 a (decimal w ++ (10 ∷ []))
-        rest = part-back ws 0 _ refusedWord _ parts w1 a (out-room (refusedOf number) short) y
-
-        pub refused-number : Room w1 a (decimal w)
-        refused-number = room-front w1 (decimal w) (10 ∷ []) a rest
-
-        module _ (w2 : List ℕ) (b : ℕ) (z : Appended w1 a (decimal w) w2 b) where
-          pub refused-feed : Room w2 b (10 ∷ [])
-          refused-feed = room-back w1 w2 (decimal w) (10 ∷ []) a b rest z
-
-          module _ (to : List ℕ) (n : ℕ) (v : Appended w2 b (10 ∷ []) to n) where
-            made : Appended ws 0 (refusedOf number) to n
-            made = parts-made ws 0 _ refusedWord _ parts w1 to a n y (appended-then z v)
-
-            pub refused-count : n ≤ 4096
-            refused-count = omega (arith, made .next, short)
-
-            pub refused-does : (k : ℕ) → k ≡ n → Call (outDue ws) (Writes (refusedOf number) ws) ws (answers k) to
-            refused-does k q = out-does (refusedOf number) to n k short made q
+      pub refused-does : (w1 w2 to : List ℕ) (a b n k : ℕ) → Appended ws 0 refusedWord w1 a → Appended w1 a (decimal w) w2 b → Appended w2 b (10 ∷ []) to n → k ≡ n → Call (outDue ws) (Writes (refusedOf number) ws) ws (answers k) to
+      refused-does w1 w2 to a b n k y z v q =
+          out-does (refusedOf number) to n k (omega (arith, refused-long number (omega arith))) (parts-made ws 0 _ refusedWord _ parts w1 to a n y (appended-then z v)) q
 
 -- `line`
 module _ (rules : ℕ) (owners starts symbols costs : List ℕ) (empty first follow productive cost ws : List ℕ) (rule : ℕ) (c : Checked) (is : checkedIs c ≡ checkOf (flat rules owners starts symbols costs)) (e : c ≡ Well)

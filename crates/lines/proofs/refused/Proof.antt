@@ -1,3 +1,4 @@
+use native.Mathlib.Omega.{arith}
 use Rattle.lines.proofs.Calling.{out-7, out-room, refused-number, refused-feed, refused-count, refused-does}
 use borrow.Author.Needs.{needs}
 use Rattle.lines.proofs.refused.Statement.{statement}
@@ -31,7 +32,7 @@ copy-requires-2 : tie.Need-copy-requires-2
 copy-requires-2 c κs = search (needs, refused-feed)
 
 count-requires : tie.Need-count-requires
-count-requires c κs = let p = c .before .before in let q = p .before .before .before .before .before in let u = q .before .before in let o = u .before .before .before in let i = o .before .before .before in refused-count _ _ (i .before .out-wrong .ensures) (i .if1 .left) _ _ (u .wide .ensures .0) (u .wide .ensures .1) _ _ (o .copy .ensures) _ _ (q .number .ensures) _ _ (p .copy2 .ensures)
+count-requires c κs = let p = c .before .before in let q = p .before .before .before .before .before in let u = q .before .before in let o = u .before .before .before in let i = o .before .before .before in refused-count _ _ (i .before .out-wrong .ensures) (i .if1 .left) _ (u .wide .ensures .1) _ _ _ (o .copy .ensures) (omega arith) _ _ (q .number .ensures) _ (omega arith) _ _ (p .copy2 .ensures)
 
 same-length-2 : tie.Need-same-length-2
 same-length-2 c = search needs

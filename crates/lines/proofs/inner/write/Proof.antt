@@ -25,7 +25,7 @@ entry-at-requires : tie.Need-entry-at-requires
 entry-at-requires c κs = search needs
 
 back-requires : tie.Need-back-requires
-back-requires c κs = search (needs, write-back)
+back-requires c κs = let s = c .before .before .before .before .before in let f = s .before .before .before .before .before in write-back _ _ _ _ _ _ _ _ _ (f .before .before .before .before .before .before .before .before .before .before .pre) _ _ _ (f .front .ensures) _ _ _ _ (s .sets .ensures) _ _
 
 same-length : tie.Need-same-length
 same-length c = search needs

@@ -1,14 +1,14 @@
 -- The fields of a line, one after the other.
 use mathlib.Core.Bool.{Bool, true, false, cond}
-use mathlib.Core.List.{List, [], _∷_, _++_, append-assoc}
+use mathlib.Core.List.{List, [], _∷_, _++_, append-assoc, append-nil}
 use mathlib.Core.Path.{_≡_, refl, sym, ap, _∙_, subst}
 use Prim.Native.Nat.{ℕ, _+_, _≤_, _<_}
 use native.Mathlib.Omega.{arith}
 use lib.ListN.{length, length-append}
 use borrow.Author.Tests.{le-leb, lt-leb}
-use Rattle.lines.specs.Text.{decimal, spaced}
-use Rattle.lines.specs.Line.{none, dear, flag, frontOf, rowWith, setsOf, priceOf, priced, backOf, noneWord, dearWord}
-use Rattle.lines.specs.Append.{Room, Appended}
+use Rattle.lines.specs.Text.{decimal, after, between, spaced}
+use Rattle.lines.specs.Line.{none, dear, Entry, lineOf, flag, priceOf, priced, noneWord, dearWord}
+use Rattle.lines.specs.Append.{Room, Appended, frontOf, rowWith, setsOf, backOf}
 use Rattle.lines.proofs.Appending.{appended-then, room-front, room-back, room-after}
 
 -- two parts, whose sum is known by equation
@@ -21,6 +21,11 @@ module _ (ws : List ℕ) (from : ℕ) (all a b : List ℕ) (e : all ≡ a ++ b) 
 
   pub parts-made : (mid to : List ℕ) (n m : ℕ) → Appended ws from a mid n → Appended mid n b to m → Appended ws from all to m
   parts-made mid to n m x y = subst (λ bs. Appended ws from bs to m) (sym e) (appended-then x y)
+
+-- a line in the parts in which it is written
+pub line-parts : (e : Entry) → lineOf e ≡ frontOf (e .number) (e .empty) ++ (setsOf (e .first) (e .follow) ++ backOf (e .cost))
+unfolding lineOf between after frontOf rowWith setsOf backOf
+line-parts e = simp (append-assoc, append-nil)
 
 -- `row`
 module _ (ns : List ℕ) where

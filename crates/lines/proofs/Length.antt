@@ -11,11 +11,12 @@ use Rattle.grammar.specs.Flat.{Flat, at}
 use Rattle.grammar.specs.Well.{WellFormed}
 use Rattle.rows.specs.Marks.{mark}
 use Rattle.tables.specs.Sizes.{words}
-use Rattle.lines.specs.Text.{digit, decimal, members, spaced}
-use Rattle.lines.specs.Line.{none, dear, flag, frontOf, rowWith, setsOf, priceOf, priced, backOf, lineOf, refusedWord, refusedOf}
-use Rattle.lines.specs.Append.{added}
+use Rattle.lines.specs.Text.{digit, decimal, members, between, spaced}
+use Rattle.lines.specs.Line.{none, dear, flag, priceOf, priced, lineOf, refusedWord, refusedOf}
+use Rattle.lines.specs.Append.{added, frontOf, rowWith, setsOf, backOf}
 use Rattle.lines.specs.Lent.{Tables, entryOf}
 use Rattle.lines.proofs.Decimal.{decimal-one, decimal-more}
+use Rattle.lines.proofs.Fields.{line-parts}
 use Rattle.lines.proofs.Sets.{any, spaced-more}
 
 -- numbers below b have at most k digits, so those below 10 b at most k + 1
@@ -60,7 +61,7 @@ first-long false n = omega arith
 
 -- a set takes one space fewer
 set-long : (f : ℕ → Bool) (n : ℕ) → n ≤ 1000 → length (spaced (members n f)) ≤ wide n - 1
-unfolding members spaced
+unfolding members between spaced
 set-long f zero l = omega arith
 set-long f (suc zero) l = omega (arith, ap length (spaced-more f 0 (f 0) refl), length-append (spaced (members 0 f)) (added (f 0) (any (members 0 f)) 0), first-long (f 0) 0, one-digit 0 (omega arith))
 set-long f (suc (suc n)) l = omega (arith, set-long f (suc n) (omega arith), ap length (spaced-more f (suc n) (f (suc n)) refl), length-append (spaced (members (suc n) f)) (added (f (suc n)) (any (members (suc n) f)) (suc n)), added-long (f (suc n)) (any (members (suc n) f)) (suc n), wide-more (suc n) (omega arith))
@@ -90,11 +91,12 @@ unfolding backOf
 back-long p n = omega (arith, price-long p n, length-append (priced (priceOf p n)) (10 ∷ []))
 
 pub line-long : (R T r : ℕ) (l : Tables) → R ≤ 512 → T ≤ 512 → r < R → length (lineOf (entryOf R T r l)) ≤ 3888
-unfolding lineOf setsOf
+unfolding setsOf
 line-long R T r l lr lt k =
     let e = entryOf R T r l in
     omega (
       arith,
+      ap length (line-parts (entryOf R T r l)),
       front-long r (e .empty) (omega arith),
       row-long (mark (words T) (l .first) r) T lt,
       row-long (mark (words T) (l .follow) r) T lt,

@@ -1,6 +1,6 @@
 -- The rising numbers of a set, one more at a time.
 use mathlib.Core.Bool.{Bool, true, false, cond, not, _||_, or-true, or-false}
-use mathlib.Core.List.{List, [], _∷_, _++_, append-assoc, append-nil}
+use mathlib.Core.List.{List, [], _∷_, _++_, map, append-assoc, append-nil}
 use mathlib.Core.Path.{_≡_, refl, sym, ap, _∙_, subst}
 use Prim.Native.Nat.{ℕ, zero, suc, _+_, _*_, _/_, _≤_, _<_}
 use native.Mathlib.Nat.{le-antisymm, le-refl, le-trans, eq-or-lt-of-le, le-of-suc-le-suc}
@@ -10,7 +10,7 @@ use lib.ListN.{length, length-append}
 use mathlib.Core.Logic.{⊎-elim}
 use borrow.Author.Tests.{not-true, not-false}
 use Rattle.rows.specs.Marks.{place, mark}
-use Rattle.lines.specs.Text.{decimal, members, later, spaced}
+use Rattle.lines.specs.Text.{decimal, members, after, between, spaced}
 use Rattle.lines.specs.Append.{Room, Appended, added, Row, rowOf}
 use Rattle.lines.proofs.Appending.{appended-long, appended-none, appended-then, room-back, room-after}
 
@@ -23,15 +23,19 @@ any-snoc : (ns : List ℕ) (x : ℕ) → any (ns ++ (x ∷ [])) ≡ true
 any-snoc [] x = refl
 any-snoc (n ∷ ns) x = refl
 
-later-snoc : (ns : List ℕ) (x : ℕ) → later (ns ++ (x ∷ [])) ≡ later ns ++ (32 ∷ decimal x)
-unfolding later
-later-snoc [] x = ap (λ z. 32 ∷ z) (append-nil (decimal x))
-later-snoc (n ∷ ns) x = ap (λ z. 32 ∷ z) (ap (λ z. decimal n ++ z) (later-snoc ns x) ∙ sym (append-assoc (decimal n) (later ns) (32 ∷ decimal x)))
+after-snoc : (byte : ℕ) (ps : List (List ℕ)) (p : List ℕ) → after byte (ps ++ (p ∷ [])) ≡ after byte ps ++ (byte ∷ p)
+unfolding after
+after-snoc byte [] p = ap (λ z. byte ∷ z) (append-nil p)
+after-snoc byte (q ∷ ps) p = ap (λ z. byte ∷ z) (ap (λ z. q ++ z) (after-snoc byte ps p) ∙ sym (append-assoc q (after byte ps) (byte ∷ p)))
+
+map-snoc : (ns : List ℕ) (x : ℕ) → map decimal (ns ++ (x ∷ [])) ≡ map decimal ns ++ (decimal x ∷ [])
+map-snoc [] x = refl
+map-snoc (n ∷ ns) x = ap (λ z. decimal n ∷ z) (map-snoc ns x)
 
 spaced-snoc : (ns : List ℕ) (x : ℕ) → spaced (ns ++ (x ∷ [])) ≡ spaced ns ++ added true (any ns) x
-unfolding spaced later added
+unfolding spaced between after added
 spaced-snoc [] x = append-nil (decimal x)
-spaced-snoc (n ∷ ns) x = ap (λ z. decimal n ++ z) (later-snoc ns x) ∙ sym (append-assoc (decimal n) (later ns) (32 ∷ decimal x))
+spaced-snoc (n ∷ ns) x = ap (λ z. decimal n ++ after 32 z) (map-snoc ns x) ∙ ap (λ z. decimal n ++ z) (after-snoc 32 (map decimal ns) (decimal x)) ∙ sym (append-assoc (decimal n) (after 32 (map decimal ns)) (32 ∷ decimal x))
 
 module _ (f : ℕ → Bool) where
   -- one number more
@@ -62,7 +66,7 @@ pub record Setting (T W : ℕ) (table : List ℕ) (r : ℕ) (ws : List ℕ) (fro
 
 module _ (T W : ℕ) (table : List ℕ) (r : ℕ) (ws : List ℕ) (from : ℕ) where
   pub set-start : Setting T W table r ws from ws from false 0
-  unfolding members spaced
+  unfolding members between spaced
   set-start = record { high = omega arith; made = appended-none ws from; told = refl; long = refl }
 
   module _ (to : List ℕ) (next : ℕ) (some : Bool) (t : ℕ) (x : Setting T W table r ws from to next some t) where

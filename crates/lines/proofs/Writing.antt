@@ -1,7 +1,7 @@
 -- The line of a rule: its front, its sets and its back, from what the tables hold.
 use mathlib.Core.Bool.{Bool}
 use mathlib.Core.List.{List, _++_}
-use mathlib.Core.Path.{_≡_, _∙_}
+use mathlib.Core.Path.{_≡_, sym, _∙_}
 use Prim.Native.Nat.{ℕ, _+_, _*_, _≤_, _<_}
 use native.Mathlib.Nat.{mul-le-mul-right}
 use native.Mathlib.Omega.{arith}
@@ -10,11 +10,11 @@ use Rattle.grammar.specs.Flat.{at}
 use Rattle.rows.specs.Marks.{mark}
 use Rattle.tables.specs.Sizes.{words}
 use Rattle.lines.specs.Text.{members}
-use Rattle.lines.specs.Line.{frontOf, rowWith, setsOf, priceOf, backOf, lineOf}
-use Rattle.lines.specs.Append.{Room, Appended, Row, rowOf}
+use Rattle.lines.specs.Line.{priceOf, lineOf}
+use Rattle.lines.specs.Append.{Room, Appended, Row, rowOf, frontOf, rowWith, setsOf, backOf}
 use Rattle.lines.specs.Lent.{tables, entryOf, Ready}
 use Rattle.lines.proofs.Appending.{appended-long, appended-then}
-use Rattle.lines.proofs.Fields.{parts-made}
+use Rattle.lines.proofs.Fields.{line-parts, parts-made}
 use Rattle.lines.proofs.Length.{front-long, row-long, back-long}
 
 -- row r of R stands in a table of its length
@@ -52,8 +52,7 @@ module _ (R T r : ℕ) (empty first follow productive cost ws : List ℕ) (x : R
 
   module _ (w : ℕ) (ew : w ≡ words R) (b : Bool) (eb : b ≡ mark w empty 0 r) (W : ℕ) (eW : W ≡ words T) (on : Bool) (eo : on ≡ mark w productive 0 r) (n : ℕ) (en : n ≡ at cost r) where
     line-is : lineOf (entryOf R T r (tables empty first follow productive cost)) ≡ frontOf r b ++ (setsOf (rowOf T W first r) (rowOf T W follow r) ++ backOf (priceOf on n))
-    unfolding lineOf
-    line-is = rw (eb, eo, ew, eW, en)
+    line-is = line-parts (entryOf R T r (tables empty first follow productive cost)) ∙ sym (rw (eb, eo, ew, eW, en))
 
     pub write-made : (w1 w2 to : List ℕ) (a d m : ℕ) → Appended ws 0 (frontOf r b) w1 a → Appended w1 a (setsOf (rowOf T W first r) (rowOf T W follow r)) w2 d → Appended w2 d (backOf (priceOf on n)) to m → Appended ws 0 (lineOf (entryOf R T r (tables empty first follow productive cost))) to m
     write-made w1 w2 to a d m y z v = parts-made ws 0 _ (frontOf r b) _ line-is w1 to a m y (appended-then z v)

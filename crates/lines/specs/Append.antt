@@ -5,11 +5,9 @@ use mathlib.Core.Path.{_≡_}
 use Prim.Native.Nat.{ℕ, _+_, _*_, _≤_, _<_}
 use lib.ListN.{length}
 use lib.Seq.{sets}
-use Rattle.grammar.specs.Flat.{at}
 use Rattle.rows.specs.Marks.{mark}
-use Rattle.tables.specs.Sizes.{words}
 use Rattle.lines.specs.Text.{decimal, members, spaced}
-use Rattle.lines.specs.Line.{Entry, lineOf, setsOf}
+use Rattle.lines.specs.Line.{Price, flag, priced}
 
 -- the bytes have room from place `from` on
 pub record Room (out : List ℕ) (from : ℕ) (bytes : List ℕ) : Type 0 where
@@ -32,3 +30,19 @@ pub record Row (T W : ℕ) (table : List ℕ) (r : ℕ) : Type 0 where
 -- the numbers below T that are marked in row r
 abbrev pub rowOf : (T W : ℕ) → List ℕ → ℕ → List ℕ
 rowOf T W table r = members T (mark W table r)
+
+-- number and EMPTY, each with the comma after it
+unfoldable pub frontOf : ℕ → Bool → List ℕ
+frontOf r e = decimal r ++ (44 ∷ flag e ∷ 44 ∷ [])
+
+-- a set with the comma after it
+unfoldable pub rowWith : List ℕ → List ℕ
+rowWith ns = spaced ns ++ (44 ∷ [])
+
+-- FIRST and FOLLOW, each with the comma after it
+unfoldable pub setsOf : (first follow : List ℕ) → List ℕ
+setsOf first follow = rowWith first ++ rowWith follow
+
+-- the last field and the line feed
+unfoldable pub backOf : Price → List ℕ
+backOf p = priced p ++ (10 ∷ [])

@@ -3,7 +3,7 @@ use mathlib.Core.Bool.{Bool, cond}
 use mathlib.Core.List.{List, [], _∷_, _++_}
 use Prim.Native.Nat.{ℕ}
 use lib.Dec.{leb}
-use Rattle.lines.specs.Text.{digit, decimal, spaced}
+use Rattle.lines.specs.Text.{digit, decimal, between, spaced}
 
 -- the last field: a cost, or `none` or `dear` (refusals 12, 13)
 pub data Price : Type 0 where
@@ -22,10 +22,11 @@ pub record Entry : Type 0 where
 abbrev pub flag : Bool → ℕ
 flag b = cond b (digit 1) (digit 0)
 
--- the words `none` and `dear`
+-- the word `none`
 abbrev pub noneWord : List ℕ
 noneWord = 110 ∷ 111 ∷ 110 ∷ 101 ∷ []
 
+-- the word `dear`
 abbrev pub dearWord : List ℕ
 dearWord = 100 ∷ 101 ∷ 97 ∷ 114 ∷ []
 
@@ -39,25 +40,9 @@ priced dear = dearWord
 unfoldable pub priceOf : Bool → ℕ → Price
 priceOf productive n = cond (leb n 65535) (amount n) (cond productive dear none)
 
--- number and EMPTY, each with the comma after it: 44 is ','
-unfoldable pub frontOf : ℕ → Bool → List ℕ
-frontOf r e = decimal r ++ (44 ∷ flag e ∷ 44 ∷ [])
-
--- a set: rising numbers, one space between, nothing for an empty set; and the comma after it
-unfoldable pub rowWith : List ℕ → List ℕ
-rowWith ns = spaced ns ++ (44 ∷ [])
-
--- FIRST and FOLLOW
-unfoldable pub setsOf : (first follow : List ℕ) → List ℕ
-setsOf first follow = rowWith first ++ rowWith follow
-
--- the cost, and the line feed, 10, in which each line ends
-unfoldable pub backOf : Price → List ℕ
-backOf p = priced p ++ (10 ∷ [])
-
--- a line for a rule, with commas between its five fields
+-- a line for a rule, with commas, 44, between its five fields; each line ends in a line feed, 10
 unfoldable pub lineOf : Entry → List ℕ
-lineOf e = frontOf (e .number) (e .empty) ++ (setsOf (e .first) (e .follow) ++ backOf (e .cost))
+lineOf e = between 44 (decimal (e .number) ∷ (flag (e .empty) ∷ []) ∷ spaced (e .first) ∷ spaced (e .follow) ∷ priced (e .cost) ∷ []) ++ (10 ∷ [])
 
 -- the fixed heading `rule,empty,first,follow,cost`, and its line feed
 abbrev pub headingOf : List ℕ

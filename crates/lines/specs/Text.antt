@@ -1,6 +1,6 @@
--- Text as bytes: numbers in decimal, and numbers with spaces between.
+-- Text as bytes: numbers in decimal, sets of numbers, and parts with a byte between.
 use mathlib.Core.Bool.{Bool, cond}
-use mathlib.Core.List.{List, [], _∷_, _++_, List·Memᴰ}
+use mathlib.Core.List.{List, [], _∷_, _++_, map, List·Memᴰ}
 use mathlib.Core.Path.{_≡_}
 use Prim.Native.Nat.{ℕ, zero, suc, _+_, _-_, _*_, _/_, _%_, _≤_, _<_}
 use lib.Dec.{ltb}
@@ -10,12 +10,12 @@ use lib.ListN.{length, getD}
 abbrev pub digit : ℕ → ℕ
 digit d = 48 + d
 
--- the digits of n, the last k+1 at most: those of n / 10, and then n % 10
+-- n in decimal, if it has at most k+1 digits: the digits of n / 10, and then n % 10
 unfoldable pub places : ℕ → ℕ → List ℕ
 places zero n = digit n ∷ []
 places (suc k) n = cond (ltb n 10) (digit n ∷ []) (places k (n / 10) ++ (digit (n % 10) ∷ []))
 
--- a number in decimal without leading zeros; it has no more than n+1 digits
+-- a number in decimal without leading zeros: n has at most n+1 digits
 unfoldable pub decimal : ℕ → List ℕ
 decimal n = places n n
 
@@ -50,12 +50,16 @@ pub data Rising : List ℕ → Type 0 where
   none : Rising []
   next : {n : ℕ} {ns : List ℕ} → ((m : ℕ) → List·Memᴰ m ns → n < m) → Rising ns → Rising (n ∷ ns)
 
--- each number after one space
-unfoldable pub later : List ℕ → List ℕ
-later [] = []
-later (n ∷ ns) = 32 ∷ (decimal n ++ later ns)
+-- each part after the byte
+unfoldable pub after : ℕ → List (List ℕ) → List ℕ
+after byte [] = []
+after byte (p ∷ ps) = byte ∷ (p ++ after byte ps)
 
--- numbers with one space between, nothing for none
+-- parts with the byte between, nothing for no part
+unfoldable pub between : ℕ → List (List ℕ) → List ℕ
+between byte [] = []
+between byte (p ∷ ps) = p ++ after byte ps
+
+-- a set: numbers with one space between, nothing for an empty set; 32 is ' '
 unfoldable pub spaced : List ℕ → List ℕ
-spaced [] = []
-spaced (n ∷ ns) = decimal n ++ later ns
+spaced ns = between 32 (map decimal ns)

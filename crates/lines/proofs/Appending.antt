@@ -1,12 +1,11 @@
 -- Laws of appending: two appends in a row are one append of both.
 use mathlib.Core.List.{List, [], _∷_, _++_}
-use mathlib.Core.Path.{_≡_, refl, sym, ap, _∙_, subst}
+use mathlib.Core.Path.{_≡_, refl, sym, ap, _∙_}
 use Prim.Native.Nat.{ℕ, suc, _+_, _≤_, _<_}
 use native.Mathlib.Nat.{add-zero}
-use native.Mathlib.Numerals.{add-one}
 use native.Mathlib.Omega.{arith}
-use lib.ListN.{length, take, drop, set, getD, length-append, length-set}
-use lib.Seq.{sets, length-sets, sets-eq, take-suc, take-all}
+use lib.ListN.{length, set, length-append}
+use lib.Seq.{sets, length-sets}
 use Rattle.lines.specs.Append.{Room, Appended}
 
 sets-then : (xs ys l : List ℕ) (i : ℕ) → sets (sets l i xs) (i + length xs) ys ≡ sets l i (xs ++ ys)

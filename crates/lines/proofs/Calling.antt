@@ -4,15 +4,14 @@ use mathlib.Core.List.{List, [], _∷_, _++_}
 use mathlib.Core.Path.{_≡_, refl, sym, ap, _∙_, subst}
 use Prim.Native.Nat.{ℕ, _+_, _^_, _≤_, _<_}
 use native.Mathlib.Omega.{arith}
-use lib.Dec.{eqb, leb}
+use lib.Dec.{eqb}
 use lib.ListN.{length, drop}
-use lib.Seq.{sets, sets-eq}
+use lib.Seq.{sets-eq}
 use borrow.Author.Tests.{eqb-true, not-false, le-leb, lt-leb}
 use Rattle.theory.proofs.Bools.{or-none}
 use Rattle.grammar.specs.Flat.{Flat, flat}
 use Rattle.grammar.specs.Outcome.{Outcome, answers, refused}
 use Rattle.grammar.specs.Production.{checkedIs, checkOf}
-use Rattle.grammar.specs.Well.{WellFormed}
 use Rattle.grammar.specs.declared.Checked.{Checked}
 use Rattle.grammar.specs.declared.Checked.the-variants.{Well}
 use Rattle.grammar.proofs.Lowest.{after-well}

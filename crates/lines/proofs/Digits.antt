@@ -1,12 +1,12 @@
 -- The digits of a number are its digits: each is one of 0 to 9, their value is the number, and the first is not 0 unless the number is.
 use mathlib.Core.List.{List, [], _∷_, _++_, List·Memᴰ·append-cases, List·Memᴰ·eq-of-singleton}
 use mathlib.Core.Logic.{⊎-elim}
-use mathlib.Core.Path.{_≡_, refl, sym, ap, _∙_, subst}
+use mathlib.Core.Path.{_≡_, refl, sym, _∙_}
 use Prim.Native.Nat.{ℕ, zero, suc, _+_, _-_, _*_, _/_, _%_, _≤_, _<_}
 use native.Mathlib.Decide.{decLt}
 use native.Mathlib.Omega.{arith}
-use lib.ListN.{length, getD, length-append, List·getD-append}
-use Rattle.lines.specs.Text.{digit, decimal, valueFrom, IsDigit, IsDecimal}
+use lib.ListN.{length-append, List·getD-append}
+use Rattle.lines.specs.Text.{digit, decimal, valueFrom, IsDecimal}
 use Rattle.lines.proofs.Decimal.{decimal-one, decimal-more}
 
 value-snoc : (bs : List ℕ) (n b : ℕ) → valueFrom n (bs ++ (b ∷ [])) ≡ valueFrom n bs * 10 + (b - 48)

@@ -1,14 +1,14 @@
 -- The fields of a line, one after the other.
-use mathlib.Core.Bool.{Bool, true, false, cond}
+use mathlib.Core.Bool.{Bool, true, false}
 use mathlib.Core.List.{List, [], _∷_, _++_, append-assoc, append-nil}
-use mathlib.Core.Path.{_≡_, refl, sym, ap, _∙_, subst}
+use mathlib.Core.Path.{_≡_, refl, sym, ap, subst}
 use Prim.Native.Nat.{ℕ, _+_, _≤_, _<_}
 use native.Mathlib.Omega.{arith}
 use lib.ListN.{length, length-append}
-use borrow.Author.Tests.{le-leb, lt-leb}
 use Rattle.lines.specs.Text.{decimal, after, between, spaced}
-use Rattle.lines.specs.Line.{none, dear, Entry, lineOf, flag, priceOf, priced, noneWord, dearWord}
+use Rattle.lines.specs.Line.{Entry, lineOf, flag, priceOf, priced, noneWord, dearWord}
 use Rattle.lines.specs.Append.{Room, Appended, frontOf, rowWith, setsOf, backOf}
+use Rattle.lines.proofs.Price.{price-amount, price-dear, price-none}
 use Rattle.lines.proofs.Appending.{appended-then, room-front, room-back, room-after}
 
 -- two parts, whose sum is known by equation
@@ -88,40 +88,39 @@ module _ (r : ℕ) (e : Bool) (ws : List ℕ) (from : ℕ) where
   front-made w1 w2 w3 to a b c m f q x y z v = parts-made ws from _ (decimal r) _ (front-is f q) w1 to a m x (appended-then y (appended-then z v))
 
 -- `price`
-word : (p : Bool) → priced (cond p dear none) ≡ cond p dearWord noneWord
+pub amount-is : (p : Bool) (n : ℕ) → n ≤ 65535 → priced (priceOf p n) ≡ decimal n
 unfolding priced
-word true = refl
-word false = refl
+amount-is p n l = ap priced (price-amount p n l)
 
-word-long : (p : Bool) → length (cond p dearWord noneWord) ≡ 4
-word-long true = refl
-word-long false = refl
+pub dear-is : (p : Bool) (n : ℕ) → 65535 < n → p ≡ true → priced (priceOf p n) ≡ dearWord
+unfolding priced
+dear-is p n l e = ap priced (price-dear p n l e)
+
+pub none-is : (p : Bool) (n : ℕ) → 65535 < n → p ≡ false → priced (priceOf p n) ≡ noneWord
+unfolding priced
+none-is p n l e = ap priced (price-none p n l e)
+
+-- either word has four bytes
+pub word-long : (p : Bool) (n : ℕ) → 65535 < n → length (priced (priceOf p n)) ≡ 4
+word-long true n l = ap length (dear-is true n l refl)
+word-long false n l = ap length (none-is false n l refl)
 
 module _ (p : Bool) (n : ℕ) (ws : List ℕ) (from : ℕ) where
-  module _ (l : n ≤ 65535) where
-    price-amount : priced (priceOf p n) ≡ decimal n
-    unfolding priceOf priced
-    price-amount = rw (le-leb n 65535 l)
+  pub amount-room : n ≤ 65535 → Room ws from (priced (priceOf p n)) → Room ws from (decimal n)
+  amount-room l r = subst (λ bs. Room ws from bs) (amount-is p n l) r
 
-    pub amount-room : Room ws from (priced (priceOf p n)) → Room ws from (decimal n)
-    amount-room r = subst (λ bs. Room ws from bs) price-amount r
-
-    pub amount-made : (to : List ℕ) (m : ℕ) → Appended ws from (decimal n) to m → Appended ws from (priced (priceOf p n)) to m
-    amount-made to m x = subst (λ bs. Appended ws from bs to m) (sym price-amount) x
+  pub amount-made : n ≤ 65535 → (to : List ℕ) (m : ℕ) → Appended ws from (decimal n) to m → Appended ws from (priced (priceOf p n)) to m
+  amount-made l to m x = subst (λ bs. Appended ws from bs to m) (sym (amount-is p n l)) x
 
   module _ (l : 65535 < n) where
-    price-word : priced (priceOf p n) ≡ cond p dearWord noneWord
-    unfolding priceOf
-    price-word = rw (lt-leb n 65535 l) (word p)
-
     pub word-room : (bytes : List ℕ) → length bytes ≤ 4 → Room ws from (priced (priceOf p n)) → Room ws from bytes
-    word-room bytes k r = record { fits = omega (arith, r .fits, ap length price-word, word-long p) }
+    word-room bytes k r = record { fits = omega (arith, r .fits, word-long p n l) }
 
     pub dear-made : p ≡ true → (to : List ℕ) (m : ℕ) → Appended ws from dearWord to m → Appended ws from (priced (priceOf p n)) to m
-    dear-made e to m x = subst (λ bs. Appended ws from bs to m) (sym (price-word ∙ rw e)) x
+    dear-made e to m x = subst (λ bs. Appended ws from bs to m) (sym (dear-is p n l e)) x
 
     pub none-made : p ≡ false → (to : List ℕ) (m : ℕ) → Appended ws from noneWord to m → Appended ws from (priced (priceOf p n)) to m
-    none-made e to m x = subst (λ bs. Appended ws from bs to m) (sym (price-word ∙ rw e)) x
+    none-made e to m x = subst (λ bs. Appended ws from bs to m) (sym (none-is p n l e)) x
 
 -- `back`
 module _ (p : Bool) (n : ℕ) (ws : List ℕ) (from : ℕ) where

@@ -1,22 +1,21 @@
 -- How long the lines are: a rule's has at most 3888 bytes.
-use mathlib.Core.Bool.{Bool, true, false, cond}
-use mathlib.Core.List.{List, [], _∷_, _++_}
-use mathlib.Core.Path.{_≡_, refl, sym, ap, _∙_, subst}
+use mathlib.Core.Bool.{Bool, true, false}
+use mathlib.Core.List.{[], _∷_, _++_}
+use mathlib.Core.Path.{refl, ap}
 use Prim.Native.Nat.{ℕ, zero, suc, _+_, _-_, _*_, _/_, _%_, _≤_, _<_}
 use native.Mathlib.Decide.{decLt, decLe}
 use native.Mathlib.Omega.{arith}
 use lib.ListN.{length, length-append}
-use borrow.Author.Tests.{le-leb, lt-leb}
 use Rattle.grammar.specs.Flat.{Flat, at}
 use Rattle.grammar.specs.Well.{WellFormed}
 use Rattle.rows.specs.Marks.{mark}
 use Rattle.tables.specs.Sizes.{words}
 use Rattle.lines.specs.Text.{digit, decimal, members, between, spaced}
-use Rattle.lines.specs.Line.{none, dear, flag, priceOf, priced, lineOf, refusedWord, refusedOf}
+use Rattle.lines.specs.Line.{flag, priceOf, priced, lineOf, refusedOf}
 use Rattle.lines.specs.Append.{added, frontOf, rowWith, setsOf, backOf}
 use Rattle.lines.specs.Lent.{Tables, entryOf}
 use Rattle.lines.proofs.Decimal.{decimal-one, decimal-more}
-use Rattle.lines.proofs.Fields.{line-parts}
+use Rattle.lines.proofs.Fields.{line-parts, amount-is, word-long}
 use Rattle.lines.proofs.Sets.{any, spaced-more}
 
 -- numbers below b have at most k digits, so those below 10 b at most k + 1
@@ -74,16 +73,10 @@ pub front-long : (r : ℕ) (e : Bool) → r < 512 → length (frontOf r e) ≤ 6
 unfolding frontOf
 front-long r e l = omega (arith, three-digits r (omega arith), length-append (decimal r) (44 ∷ flag e ∷ 44 ∷ []))
 
-word-long : (p : Bool) → length (priced (cond p dear none)) ≤ 5
-unfolding priced
-word-long true = omega arith
-word-long false = omega arith
-
 price-long : (p : Bool) (n : ℕ) → length (priced (priceOf p n)) ≤ 5
-unfolding priceOf priced
 price-long p n = elim (decLe n 65535) [
-  | yes l ↦ rw (le-leb n 65535 l) (five-digits n (omega arith))
-  | no l ↦ rw (lt-leb n 65535 (omega arith)) (word-long p)
+  | yes l ↦ omega (arith, ap length (amount-is p n l), five-digits n (omega arith))
+  | no l ↦ omega (arith, word-long p n (omega arith))
 ]
 
 pub back-long : (p : Bool) (n : ℕ) → length (backOf (priceOf p n)) ≤ 6

@@ -1,18 +1,16 @@
 -- From the defined tables, the line of a rule says what document 01 defines.
-use mathlib.Core.Bool.{Bool, true, false, cond, true≢false}
+use mathlib.Core.Bool.{Bool, true, false, true≢false}
 use mathlib.Core.List.{List, List·Memᴰ}
-use mathlib.Core.Logic.{_↔_, _⊎_, inl, inr}
+use mathlib.Core.Logic.{_↔_}
 use mathlib.Core.Path.{_≡_, refl, sym, ap, _∙_, subst}
 use Prim.Native.Nat.{ℕ, _≤_, _<_}
 use native.Mathlib.Decide.{decLe}
 use native.Mathlib.Omega.{arith}
 use lib.ListN.{length}
-use borrow.Author.Tests.{le-leb, lt-leb}
-use Rattle.theory.specs.Definitions.{First, Empty, Sentence, Productive, Cost}
+use Rattle.theory.specs.Definitions.{First, Empty, Productive, Cost}
 use Rattle.theory.specs.Follow.{Follow, corrected}
 use Rattle.theory.proofs.Cost.{cost-one}
 use Rattle.grammar.specs.Flat.{Flat, at, denoted, price}
-use Rattle.grammar.specs.Outcome.{answers}
 use Rattle.rows.specs.Marks.{mark}
 use Rattle.rows.specs.Tables.{view}
 use Rattle.rows.proofs.Tables.{view-mark, view-inside}
@@ -22,12 +20,12 @@ use Rattle.firsts.specs.Lent.{marksOf, lent as firsts}
 use Rattle.follows.specs.Calls.{Full, Defined as FollowDefined}
 use Rattle.follows.specs.Lent.{lent}
 use Rattle.costs.specs.Defined.{ProductiveDefined, CostDefined}
-use Rattle.costs.specs.Lent.{costsOf}
 use Rattle.costs.proofs.Summing.{entry}
 use Rattle.lines.specs.Text.{members}
-use Rattle.lines.specs.Line.{Price, amount, none, dear, priceOf}
+use Rattle.lines.specs.Line.{amount, none, dear, priceOf}
 use Rattle.lines.specs.Lent.{Tables, tables, entryOf}
 use Rattle.lines.specs.Says.{Defined, AllDear, Says}
+use Rattle.lines.proofs.Price.{price-amount, price-dear, price-none, amount-told, none-told, dear-told}
 use Rattle.lines.proofs.Members.{passes, held, members-rise}
 
 -- the marks of row r, as the numbers below T that pass
@@ -37,63 +35,6 @@ module _ (R T W : ℕ) (ws : List ℕ) (r : ℕ) (lr : r < R) where
 
   pub row-held : (t : ℕ) → List·Memᴰ t (members T (mark W ws r)) → view R T W ws r t ≡ true
   row-held t m = let h = passes (mark W ws r) T t m in view-mark R T W ws r t lr (h .0) ∙ h .1
-
--- the last field, by cases of the entry and the mark
-module _ (p : Bool) (n : ℕ) where
-  price-amount : n ≤ 65535 → priceOf p n ≡ amount n
-  unfolding priceOf
-  price-amount l = rw (le-leb n 65535 l)
-
-  price-dear : 65535 < n → p ≡ true → priceOf p n ≡ dear
-  unfolding priceOf
-  price-dear l e = rw (lt-leb n 65535 l, e)
-
-  price-none : 65535 < n → p ≡ false → priceOf p n ≡ none
-  unfolding priceOf
-  price-none l e = rw (lt-leb n 65535 l, e)
-
-  kinds : (n ≤ 65535) ⊎ (((65535 < n) × (p ≡ true)) ⊎ ((65535 < n) × (p ≡ false)))
-  kinds = go p refl
-    where
-      go : (b : Bool) → p ≡ b → (n ≤ 65535) ⊎ (((65535 < n) × (p ≡ true)) ⊎ ((65535 < n) × (p ≡ false)))
-      go true e = elim (decLe n 65535) [ yes l ↦ inl l | no l ↦ inr (inl (omega arith, e)) ]
-      go false e = elim (decLe n 65535) [ yes l ↦ inl l | no l ↦ inr (inr (omega arith, e)) ]
-
--- an amount, `none` and `dear` are told apart
-amounts-same : {m n : ℕ} → amount m ≡ amount n → m ≡ n
-amounts-same e = cc
-
-not-none : {m : ℕ} → amount m ≡ none → ⊥
-not-none e = let z : _≡_ {A = ℕ} 0 1 = cc in omega arith
-
-not-dear : {m : ℕ} → amount m ≡ dear → ⊥
-not-dear e = let z : _≡_ {A = ℕ} 0 1 = cc in omega arith
-
-none-dear : _≡_ {A = Price} none dear → ⊥
-none-dear e = let z : _≡_ {A = ℕ} 0 1 = cc in omega arith
-
--- and the other way: the field tells the case
-module _ (p : Bool) (n : ℕ) where
-  amount-told : (m : ℕ) → priceOf p n ≡ amount m → (n ≤ 65535) × (n ≡ m)
-  amount-told m e = elim (kinds p n) [
-    | inl l ↦ (l, amounts-same (sym (price-amount p n l) ∙ e))
-    | inr (inl h) ↦ absurd (not-dear (sym e ∙ price-dear p n (h .0) (h .1)))
-    | inr (inr h) ↦ absurd (not-none (sym e ∙ price-none p n (h .0) (h .1)))
-  ]
-
-  none-told : priceOf p n ≡ none → (65535 < n) × (p ≡ false)
-  none-told e = elim (kinds p n) [
-    | inl l ↦ absurd (not-none (sym (price-amount p n l) ∙ e))
-    | inr (inl h) ↦ absurd (none-dear (sym e ∙ price-dear p n (h .0) (h .1)))
-    | inr (inr h) ↦ h
-  ]
-
-  dear-told : priceOf p n ≡ dear → (65535 < n) × (p ≡ true)
-  dear-told e = elim (kinds p n) [
-    | inl l ↦ absurd (not-dear (sym (price-amount p n l) ∙ e))
-    | inr (inl h) ↦ h
-    | inr (inr h) ↦ absurd (none-dear (sym (price-none p n (h .0) (h .1)) ∙ e))
-  ]
 
 module _ (g : Flat) (l : Tables) (d : Defined g l) (r : ℕ) (lr : r < g .rules) where
   abbrev R : ℕ

@@ -32,12 +32,14 @@ outDue out = unless (outWrong out) 7 (answers tt)
 abbrev pub lineDue : Flat → ℕ → Tables → List ℕ → Outcome (Unit {0})
 lineDue g r l out = unlessDue g (unless (tablesWrong (g .rules) (length (g .costs)) l || outWrong out) 7 (unless (leb (g .rules) r) 9 (answers tt)))
 
--- the promises: the heading, what is printed for a refused file, and the line of a rule
+-- the promise of `heading`: it prints the fixed heading
 abbrev pub Heading : List ℕ → Written → List ℕ → Type 0
 Heading out r out′ = Call (outDue out) (Writes headingOf out) out (writtenIs r) out′
 
+-- the promise of `refused`: for a refused file it prints only `refused ` and the number
 abbrev pub RefusedLine : ℕ → List ℕ → Written → List ℕ → Type 0
 RefusedLine n out r out′ = Call (outDue out) (Writes (refusedOf n) out) out (writtenIs r) out′
 
+-- the promise of `line`: a line for a rule, from what the tables hold
 abbrev pub Line : Flat → ℕ → Tables → List ℕ → Written → List ℕ → Type 0
 Line g r l out a out′ = Call (lineDue g r l out) (Writes (lineOf (entryOf (g .rules) (length (g .costs)) r l)) out) out (writtenIs a) out′

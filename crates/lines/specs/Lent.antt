@@ -11,7 +11,7 @@ use Rattle.tables.specs.Sizes.{words, tableWrong, rowWrong, numbersWrong}
 use Rattle.lines.specs.Text.{members}
 use Rattle.lines.specs.Line.{Entry, priceOf}
 
--- all five
+-- EMPTY, FIRST, mode 2 FOLLOW, PRODUCTIVE and COST
 pub record Tables : Type 0 where
   pub empty : List ℕ
   pub first : List ℕ
@@ -19,6 +19,7 @@ pub record Tables : Type 0 where
   pub productive : List ℕ
   pub cost : List ℕ
 
+-- the five together
 abbrev pub tables : (empty first follow productive cost : List ℕ) → Tables
 tables empty first follow productive cost = record { empty = empty; first = first; follow = follow; productive = productive; cost = cost }
 

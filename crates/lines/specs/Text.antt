@@ -33,12 +33,12 @@ pub record IsDigit (b : ℕ) : Type 0 where
   pub low : 48 ≤ b
   pub high : b ≤ 57
 
--- bytes are the decimal number n, without leading zeros
+-- bytes are the decimal number n, without leading zeros: the first digit is 0 only if n is, and then it is the only one
 pub record IsDecimal (n : ℕ) (bs : List ℕ) : Type 0 where
   pub some : 1 ≤ length bs
   pub digits : (b : ℕ) → List·Memᴰ b bs → IsDigit b
   pub is : value bs ≡ n
-  pub leading : getD bs 0 0 ≡ 48 → n ≡ 0
+  pub leading : getD bs 0 0 ≡ 48 → (n ≡ 0) × (length bs ≡ 1)
 
 -- the numbers below n that pass, rising
 unfoldable pub members : ℕ → (ℕ → Bool) → List ℕ

@@ -13,3 +13,4 @@ pub mod Determined
 pub mod Saying
 pub mod Printing
 pub mod Report
+pub mod Reading

@@ -1,0 +1,16 @@
+pub mod Appending
+pub mod Copying
+pub mod Decimal
+pub mod Digits
+pub mod Sets
+pub mod Members
+pub mod Price
+pub mod Fields
+pub mod Length
+pub mod Writing
+pub mod Calling
+pub mod Determined
+pub mod Saying
+pub mod Printing
+pub mod Report
+pub mod Reading

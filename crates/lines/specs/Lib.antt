@@ -1,0 +1,6 @@
+pub mod Text
+pub mod Line
+pub mod Append
+pub mod Lent
+pub mod Calls
+pub mod Says

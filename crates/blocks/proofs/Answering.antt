@@ -18,7 +18,8 @@ use Rattle.tables.proofs.Calls.{call-refused, call-does}
 use Rattle.blocks.specs.declared.Counts.{Counts}
 use Rattle.blocks.specs.Layout.{blocks, numbers, bytes, countsOf, ownersFrom, startsFrom, symbolsFrom, costsFrom, grammarOf}
 use Rattle.blocks.specs.Refusals.{listsWrong, fileWrong, checksDiffer, numbersDiffer, countsOut, blocksWrong}
-use Rattle.blocks.specs.Reading.{Lists, lists, over, filled, Fronts, fronts, Fits, readDue, Reads}
+use Rattle.blocks.specs.Steps.{Fronts, fronts, Fits}
+use Rattle.blocks.specs.Reading.{Lists, lists, over, filled, readDue, Reads}
 use Rattle.blocks.proofs.Conditions.{long-if, whole-if, limited-if, exact-if}
 use Rattle.blocks.proofs.Lists.{length-listed}
 

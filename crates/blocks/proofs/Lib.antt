@@ -2,3 +2,5 @@ pub mod Lists
 pub mod Steps
 pub mod Conditions
 pub mod Answering
+pub mod Determined
+pub mod Exactly

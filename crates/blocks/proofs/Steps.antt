@@ -16,7 +16,8 @@ use Rattle.grammar.specs.declared.Checked.{Checked}
 use Rattle.blocks.specs.declared.Counts.{Counts}
 use Rattle.blocks.specs.Layout.{blocks, blockNumber, blockCheck, blockSum, number, payload, numbers, bytes, countsOf, ownersFrom, startsFrom, symbolsFrom, costsFrom, payloadEnd, grammarOf}
 use Rattle.blocks.specs.Refusals.{checkDiffers, spareUsed, blocksDue, blocksWrong, countsOut}
-use Rattle.blocks.specs.Reading.{Lists, lists, over, filled, fronts}
+use Rattle.blocks.specs.Steps.{fronts}
+use Rattle.blocks.specs.Reading.{Lists, lists, over, filled}
 
 -- the counts
 pub counts-are : (file : List ℕ) (r t p n : ℕ) → r ≡ number file 0 → t ≡ number file 2 → p ≡ number file 4 → n ≡ number file 6 → record { rules = r; tokens = t; prods = p; symbols = n } ≡ countsOf file

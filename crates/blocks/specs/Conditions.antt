@@ -4,7 +4,7 @@ use mathlib.Core.Path.{_≡_}
 use Prim.Native.Nat.{ℕ, _+_, _*_, _%_, _≤_, _<_}
 use lib.ListN.{length}
 use Rattle.blocks.specs.declared.Counts.{Counts}
-use Rattle.blocks.specs.Layout.{blocks, blockNumber, blockCheck, blockSum, payload, payloadEnd}
+use Rattle.blocks.specs.Layout.{blocks, blockNumber, blockCheck, blockSum, payload, countsOf, payloadEnd}
 use Rattle.blocks.specs.Reading.{Lists}
 
 -- not 7: the four lent lists are of the limits' lengths
@@ -51,3 +51,12 @@ pub record Exact (file : List ℕ) (c : Counts) : Type 0 where
   pub hold : payloadEnd c ≤ 508 * blocks file
   pub least : 508 * blocks file < payloadEnd c + 508
   pub zeros : (i : ℕ) → payloadEnd c ≤ i → i < 508 * blocks file → payload file i ≡ 0
+
+-- none of the reader's own refusals is due
+pub record Readable (file : List ℕ) (m : Lists) : Type 0 where
+  pub long : Long m
+  pub whole : Whole file
+  pub summed : Each file (Summed file)
+  pub placed : Each file (Placed file)
+  pub limited : Limited (countsOf file)
+  pub exact : Exact file (countsOf file)

@@ -1,16 +1,16 @@
 -- The file reader: its refusals in order, what it fills, and what it answers.
 use mathlib.Core.List.{List, _++_}
 use mathlib.Core.Path.{_≡_}
-use Prim.Native.Nat.{ℕ, _+_, _*_, _≤_}
-use lib.ListN.{length, take, drop}
-use Rattle.grammar.specs.Flat.{Flat, flat}
+use Prim.Native.Nat.{ℕ}
+use lib.ListN.{length, drop}
+use Rattle.grammar.specs.Flat.{Flat}
 use Rattle.grammar.specs.Outcome.{Outcome, answers, refused, unless}
 use Rattle.grammar.specs.Refusals.{unlessDue}
 use Rattle.tables.specs.Call.{Call}
 use Rattle.blocks.specs.declared.Counts.{Counts}
 use Rattle.blocks.specs.declared.Reading.{Reading}
 use Rattle.blocks.specs.declared.Reading.the-variants.{Counts as Given, Refused}
-use Rattle.blocks.specs.Layout.{blocks, countsOf, grammarOf, payloadEnd}
+use Rattle.blocks.specs.Layout.{countsOf, grammarOf}
 use Rattle.blocks.specs.Refusals.{listsWrong, fileWrong, checksDiffer, numbersDiffer, countsOut, blocksWrong}
 
 -- the cases of the answer: R, T, P and N, or the refusal
@@ -34,21 +34,6 @@ over front list = front ++ drop (length front) list
 
 abbrev pub filled : Flat → Lists → Lists
 filled g m = lists (over (g .owners) (m .owners)) (over (g .starts) (m .starts)) (over (g .symbols) (m .symbols)) (over (g .costs) (m .costs))
-
--- each list holds its front of a grammar with these counts
-pub record Fronts (c : Counts) (owners starts symbols costs : List ℕ) : Type 0 where
-  pub prods : c .prods ≤ length owners
-  pub ends : c .prods + 1 ≤ length starts
-  pub held : c .symbols ≤ length symbols
-  pub tokens : c .tokens ≤ length costs
-
-abbrev pub fronts : Counts → (owners starts symbols costs : List ℕ) → Flat
-fronts c owners starts symbols costs = flat (c .rules) (take (c .prods) owners) (take (c .prods + 1) starts) (take (c .symbols) symbols) (take (c .tokens) costs)
-
--- what it takes to fill them: the file holds the payload, the lists their fronts
-pub record Fits (file : List ℕ) (c : Counts) (owners starts symbols costs : List ℕ) : Type 0 where
-  pub holds : payloadEnd c ≤ 508 * blocks file
-  pub long : Fronts c owners starts symbols costs
 
 -- the file reader's order is 20, 21, 22, 1, 23; lists not of the limits' lengths 7 before all others
 abbrev pub readDue : List ℕ → Lists → Outcome (Unit {0})

@@ -9,18 +9,19 @@ use Rattle.grammar.specs.Refusals.{sizesOut}
 use Rattle.blocks.specs.declared.Counts.{Counts}
 use Rattle.blocks.specs.Layout.{blocks, blockNumber, blockCheck, blockSum, payload, payloadEnd}
 
--- 7: the four lent lists are not of the limits' lengths
+-- 7: the four lent lists, by their lengths, are not of the limits' lengths
 unfoldable pub listsWrong : (owners starts symbols costs : ℕ) → Bool
 listsWrong owners starts symbols costs = not (eqb owners 4096) || (not (eqb starts 4097) || (not (eqb symbols 16384) || not (eqb costs 512)))
 
--- 20: file empty, not whole blocks, or over 98 blocks
+-- 20: file empty, not whole blocks, or over 98 blocks; by its length
 unfoldable pub fileWrong : ℕ → Bool
 fileWrong n = eqb n 0 || (not (eqb (n % 512) 0) || ltb 98 (n / 512))
 
--- 21: a block's check differs: it is not the sum of the first 510 bytes modulo 65536
+-- block b's check differs from the sum of the first 510 bytes modulo 65536
 unfoldable pub checkDiffers : List ℕ → (b : ℕ) → Bool
 checkDiffers file b = not (eqb (blockCheck file b) (blockSum file b % 65536))
 
+-- 21: a block's check differs
 unfoldable pub checksDiffer : List ℕ → Bool
 checksDiffer file = some (blocks file) (λ b. checkDiffers file b)
 
@@ -32,7 +33,7 @@ numbersDiffer file = some (blocks file) (λ b. not (eqb (blockNumber file b) b))
 abbrev pub countsOut : Counts → Bool
 countsOut c = sizesOut (c .rules) (c .tokens) (c .prods) (c .symbols)
 
--- the blocks due: the least number that hold the payload
+-- the blocks due: as many as hold the payload, and no more
 abbrev pub blocksDue : Counts → ℕ
 blocksDue c = (payloadEnd c + 507) / 508
 

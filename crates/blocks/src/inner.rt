@@ -11,7 +11,8 @@ ghost use Rattle.grammar.specs.Flat.{flat};
 ghost use Rattle.grammar.specs.Production.{checkedIs, checkOf};
 ghost use Rattle.blocks.specs.Layout.{joined, blocks, inBlock, blockNumber, blockCheck, blockSum, payload, number, numbers, bytes, countsOf, startsFrom, symbolsFrom, costsFrom, payloadEnd, grammarOf};
 ghost use Rattle.blocks.specs.Refusals.{listsWrong, fileWrong, checkDiffers, checksDiffer, numbersDiffer, countsOut, spareUsed, blocksWrong};
-ghost use Rattle.blocks.specs.Reading.{lists, over, filled, Fits, Fronts, fronts};
+ghost use Rattle.blocks.specs.Steps.{Fronts, fronts, Fits};
+ghost use Rattle.blocks.specs.Reading.{lists, over, filled};
 
 fn byte(x: u8) -> usize
     ensures { λ r. ⌜ (r ≡ x) × (r < 2 ^ 8) ⌝ }

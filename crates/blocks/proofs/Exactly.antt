@@ -1,26 +1,28 @@
 -- Each refusal of the reader, and its answer, is given exactly where document 01 says so; what it leaves in each case.
-use mathlib.Core.Bool.{Bool, true, false, true≢false}
-use mathlib.Core.List.{List}
+use mathlib.Core.Bool.{Bool, true, false, true≢false, false≢true}
+use mathlib.Core.List.{List, _∷_}
 use mathlib.Core.Logic.{_⊎_, inl, inr, _↔_}
 use mathlib.Core.Path.{_≡_, refl, sym, _∙_, ap}
-use Prim.Native.Nat.{ℕ, _≤_, _<_}
+use Prim.Native.Nat.{ℕ, zero, suc, _≤_, _<_}
+use native.Mathlib.Decide.{decLe}
 use native.Mathlib.Omega.{arith}
 use lib.Dec.{eqb}
-use lib.ListN.{length}
-use borrow.Author.Tests.{eqb-false}
+use lib.ListN.{length, List·getD-eq-default}
+use borrow.Author.Tests.{eqb-false, ne-eqb}
 use Rattle.grammar.specs.Flat.{Flat}
 use Rattle.grammar.specs.Outcome.{Outcome, answers, refused, unless}
 use Rattle.grammar.specs.Production.{checkOf}
-use Rattle.grammar.specs.Refusals.{Due, unlessDue}
+use Rattle.grammar.specs.Refusals.{sizesOut, dues, Due, unlessDue}
 use Rattle.grammar.specs.Well.{WellFormed}
 use Rattle.grammar.proofs.Lowest.{due-given, due-none, given-due, answers-none}
 use Rattle.grammar.proofs.Well.{well, formed}
 use Rattle.tables.specs.Call.{Call}
 use Rattle.blocks.specs.declared.Counts.{Counts}
-use Rattle.blocks.specs.Layout.{countsOf, grammarOf}
+use Rattle.blocks.specs.Layout.{countsOf, ownersFrom, symbolsFrom, costsFrom, grammarOf}
 use Rattle.blocks.specs.Refusals.{listsWrong, fileWrong, checksDiffer, numbersDiffer, countsOut, blocksWrong}
 use Rattle.blocks.specs.Reading.{Lists, filled, readDue, Reads}
 use Rattle.blocks.specs.Conditions.{Long, Whole, Summed, Placed, Each, Some, Limited, Exact, Readable}
+use Rattle.blocks.proofs.Answering.{length-numbers, length-bytes}
 use Rattle.blocks.proofs.Conditions.{long-if, if-long, whole-if, if-whole, summed-if, if-summed, unsummed-if, placed-if, if-placed, misplaced-if, limited-if, if-limited, exact-if, if-exact}
 
 not-both : {A : Type 0} {x : A} {n : ℕ} → answers x ≡ refused n → ⊥
@@ -39,6 +41,11 @@ here : {A : Type 0} (b : Bool) (n : ℕ) (x : Outcome A) → (x ≡ refused n �
 here true n x h e = refl
 here false n x h e = absurd (h e)
 
+-- none was given
+on : {A : Type 0} (b : Bool) (n : ℕ) (x : Outcome A) {y : A} → unless b n x ≡ answers y → (b ≡ false) × (x ≡ answers y)
+on true n x e = absurd (not-both (sym e))
+on false n x e = (refl, e)
+
 -- a test that passes, where its condition does not hold
 yes-if : {G : Type 0} (b : Bool) → (b ≡ false → G) → (G → ⊥) → b ≡ true
 yes-if true f h = refl
@@ -46,6 +53,13 @@ yes-if false f h = absurd (h (f refl))
 
 if-yes : {G : Type 0} {b : Bool} → (G → b ≡ false) → b ≡ true → G → ⊥
 if-yes f h g = true≢false (sym h ∙ f g)
+
+then : {A B D : Type 0} → A ↔ B → B ↔ D → A ↔ D
+then p q = (λ a. q .0 (p .0 a), λ d. p .1 (q .1 d))
+
+-- a number from 2 to 6 is no other
+not-six : (n m : ℕ) → 2 ≤ m → m ≤ 6 → (2 ≤ n → n ≤ 6 → ⊥) → eqb n m ≡ false
+not-six n m lo hi h = ne-eqb n m (λ e. h (omega arith) (omega arith))
 
 -- after the lists are filled: the lowest of 2 to 6 due
 module _ {A : Type 0} (g : Flat) (x : A) where
@@ -62,3 +76,270 @@ module _ {A : Type 0} (g : Flat) (x : A) where
       go : (o : Outcome (Unit {0})) → checkOf g ≡ o → (checkOf g ≡ answers tt) × (x ≡ y)
       go (answers tt) q = let r : _≡_ {A = Outcome A} (answers x) (answers y) = sym (due-none g (answers x) (answers-none g q)) ∙ e in (q, let z : x ≡ y = cc in z)
       go (refused m) q = let d = given-due g m q in absurd (not-both (sym e ∙ due-given g (answers x) m (d .0) (d .1)))
+
+-- the reader's own refusals
+module _ (file : List ℕ) (m : Lists) where
+  abbrev lent : Bool
+  lent = listsWrong (length (m .owners)) (length (m .starts)) (length (m .symbols)) (length (m .costs))
+
+  abbrev c : Counts
+  c = countsOf file
+
+  -- where one ends the call, by the tests before it
+  own-7 : lent ≡ true → readDue file m ≡ refused 7
+  own-7 h = rw h
+
+  own-20 : lent ≡ false → fileWrong (length file) ≡ true → readDue file m ≡ refused 20
+  own-20 a h = rw (a, h)
+
+  own-21 : lent ≡ false → fileWrong (length file) ≡ false → checksDiffer file ≡ true → readDue file m ≡ refused 21
+  own-21 a b h = rw (a, b, h)
+
+  own-22 : lent ≡ false → fileWrong (length file) ≡ false → checksDiffer file ≡ false → numbersDiffer file ≡ true → readDue file m ≡ refused 22
+  own-22 a b d h = rw (a, b, d, h)
+
+  own-1 : lent ≡ false → fileWrong (length file) ≡ false → checksDiffer file ≡ false → numbersDiffer file ≡ false → countsOut c ≡ true → readDue file m ≡ refused 1
+  own-1 a b d e h = rw (a, b, d, e, h)
+
+  own-23 : lent ≡ false → fileWrong (length file) ≡ false → checksDiffer file ≡ false → numbersDiffer file ≡ false → countsOut c ≡ false → blocksWrong file c ≡ true → readDue file m ≡ refused 23
+  own-23 a b d e f h = rw (a, b, d, e, f, h)
+
+  own-none : lent ≡ false → fileWrong (length file) ≡ false → checksDiffer file ≡ false → numbersDiffer file ≡ false → countsOut c ≡ false → blocksWrong file c ≡ false → readDue file m ≡ answers tt
+  own-none a b d e f h = rw (a, b, d, e, f, h)
+
+  -- what is left of the order after each test
+  abbrev rest-23 : Outcome (Unit {0})
+  rest-23 = unless (blocksWrong file c) 23 (answers tt)
+
+  abbrev rest-1 : Outcome (Unit {0})
+  rest-1 = unless (countsOut c) 1 rest-23
+
+  abbrev rest-22 : Outcome (Unit {0})
+  rest-22 = unless (numbersDiffer file) 22 rest-1
+
+  abbrev rest-21 : Outcome (Unit {0})
+  rest-21 = unless (checksDiffer file) 21 rest-22
+
+  abbrev rest-20 : Outcome (Unit {0})
+  rest-20 = unless (fileWrong (length file)) 20 rest-21
+
+  -- a number that is none of these is not given
+  never-23 : (n : ℕ) → eqb 23 n ≡ false → rest-23 ≡ refused n → ⊥
+  never-23 n h e = not-both (past (blocksWrong file c) 23 n (answers tt) h e .1)
+
+  never-1 : (n : ℕ) → eqb 1 n ≡ false → eqb 23 n ≡ false → rest-1 ≡ refused n → ⊥
+  never-1 n g h e = never-23 n h (past (countsOut c) 1 n rest-23 g e .1)
+
+  never-22 : (n : ℕ) → eqb 22 n ≡ false → eqb 1 n ≡ false → eqb 23 n ≡ false → rest-22 ≡ refused n → ⊥
+  never-22 n f g h e = never-1 n g h (past (numbersDiffer file) 22 n rest-1 f e .1)
+
+  never-21 : (n : ℕ) → eqb 21 n ≡ false → eqb 22 n ≡ false → eqb 1 n ≡ false → eqb 23 n ≡ false → rest-21 ≡ refused n → ⊥
+  never-21 n d f g h e = never-22 n f g h (past (checksDiffer file) 21 n rest-22 d e .1)
+
+  never-20 : (n : ℕ) → eqb 20 n ≡ false → eqb 21 n ≡ false → eqb 22 n ≡ false → eqb 1 n ≡ false → eqb 23 n ≡ false → rest-20 ≡ refused n → ⊥
+  never-20 n b d f g h e = never-21 n d f g h (past (fileWrong (length file)) 20 n rest-21 b e .1)
+
+  other-six : (n : ℕ) → 2 ≤ n → n ≤ 6 → readDue file m ≡ refused n → ⊥
+  other-six n lo hi e =
+      never-20 n
+      (not-six 20 n lo hi (λ a b. omega arith))
+      (not-six 21 n lo hi (λ a b. omega arith))
+      (not-six 22 n lo hi (λ a b. omega arith))
+      (not-six 1 n lo hi (λ a b. omega arith))
+      (not-six 23 n lo hi (λ a b. omega arith))
+      (past lent 7 n rest-20 (not-six 7 n lo hi (λ a b. omega arith)) e .1)
+
+  due-7 : (readDue file m ≡ refused 7) ↔ (Long m → ⊥)
+  due-7 = (
+    λ e. if-yes (if-long m) (here lent 7 rest-20 (never-20 7 refl refl refl refl refl) e),
+    λ h. own-7 (yes-if lent (long-if m) h),
+  )
+
+  due-20 : (readDue file m ≡ refused 20) ↔ (Long m × (Whole file → ⊥))
+  due-20 = (
+    λ e.
+        let a = past lent 7 20 rest-20 refl e in
+        (long-if m (a .0), if-yes (if-whole file) (here (fileWrong (length file)) 20 rest-21 (never-21 20 refl refl refl refl) (a .1))),
+    λ h. own-20 (if-long m (h .0)) (yes-if (fileWrong (length file)) (whole-if file) (h .1)),
+  )
+
+  due-21 : (readDue file m ≡ refused 21) ↔ (Long m × Whole file × Some file (Summed file))
+  due-21 = (
+    λ e.
+        let a = past lent 7 21 rest-20 refl e in
+        let b = past (fileWrong (length file)) 20 21 rest-21 refl (a .1) in
+        (long-if m (a .0), whole-if file (b .0), unsummed-if file (here (checksDiffer file) 21 rest-22 (never-22 21 refl refl refl) (b .1))),
+    λ h. own-21 (if-long m (h .0)) (if-whole file (h .1)) (yes-if (checksDiffer file) (λ q. summed-if file q) (λ q. h .2 .2 (q (h .2 .0) (h .2 .1)))),
+  )
+
+  due-22 : (readDue file m ≡ refused 22) ↔ (Long m × Whole file × Each file (Summed file) × Some file (Placed file))
+  due-22 = (
+    λ e.
+        let a = past lent 7 22 rest-20 refl e in
+        let b = past (fileWrong (length file)) 20 22 rest-21 refl (a .1) in
+        let d = past (checksDiffer file) 21 22 rest-22 refl (b .1) in
+        (
+          long-if m (a .0),
+          whole-if file (b .0),
+          summed-if file (d .0),
+          misplaced-if file (here (numbersDiffer file) 22 rest-1 (never-1 22 refl refl) (d .1)),
+        ),
+    λ h. own-22 (if-long m (h .0)) (if-whole file (h .1)) (if-summed file (h .2)) (yes-if (numbersDiffer file) (λ q. placed-if file q) (λ q. h .3 .2 (q (h .3 .0) (h .3 .1)))),
+  )
+
+  due-1 : (readDue file m ≡ refused 1) ↔ (Long m × Whole file × Each file (Summed file) × Each file (Placed file) × (Limited c → ⊥))
+  due-1 = (
+    λ e.
+        let a = past lent 7 1 rest-20 refl e in
+        let b = past (fileWrong (length file)) 20 1 rest-21 refl (a .1) in
+        let d = past (checksDiffer file) 21 1 rest-22 refl (b .1) in
+        let f = past (numbersDiffer file) 22 1 rest-1 refl (d .1) in
+        (
+          long-if m (a .0),
+          whole-if file (b .0),
+          summed-if file (d .0),
+          placed-if file (f .0),
+          if-yes (if-limited c) (here (countsOut c) 1 rest-23 (never-23 1 refl) (f .1)),
+        ),
+    λ h. own-1 (if-long m (h .0)) (if-whole file (h .1)) (if-summed file (h .2)) (if-placed file (h .3)) (yes-if (countsOut c) (limited-if c) (h .4)),
+  )
+
+  due-23 : (readDue file m ≡ refused 23) ↔ (Long m × Whole file × Each file (Summed file) × Each file (Placed file) × Limited c × (Exact file c → ⊥))
+  due-23 = (
+    λ e.
+        let a = past lent 7 23 rest-20 refl e in
+        let b = past (fileWrong (length file)) 20 23 rest-21 refl (a .1) in
+        let d = past (checksDiffer file) 21 23 rest-22 refl (b .1) in
+        let f = past (numbersDiffer file) 22 23 rest-1 refl (d .1) in
+        let g = past (countsOut c) 1 23 rest-23 refl (f .1) in
+        (
+          long-if m (a .0),
+          whole-if file (b .0),
+          summed-if file (d .0),
+          placed-if file (f .0),
+          limited-if c (g .0),
+          if-yes (if-exact file c) (here (blocksWrong file c) 23 (answers tt) not-both (g .1)),
+        ),
+    λ h. own-23 (if-long m (h .0)) (if-whole file (h .1)) (if-summed file (h .2)) (if-placed file (h .3)) (if-limited c (h .4)) (yes-if (blocksWrong file c) (exact-if file c) (h .5)),
+  )
+
+  due-none-own : (readDue file m ≡ answers tt) ↔ Readable file m
+  due-none-own = (
+    λ e.
+        let a = on lent 7 rest-20 e in
+        let b = on (fileWrong (length file)) 20 rest-21 (a .1) in
+        let d = on (checksDiffer file) 21 rest-22 (b .1) in
+        let f = on (numbersDiffer file) 22 rest-1 (d .1) in
+        let g = on (countsOut c) 1 rest-23 (f .1) in
+        let h = on (blocksWrong file c) 23 (answers tt) (g .1) in
+        record {
+          long = long-if m (a .0);
+          whole = whole-if file (b .0);
+          summed = summed-if file (d .0);
+          placed = placed-if file (f .0);
+          limited = limited-if c (g .0);
+          exact = exact-if file c (h .0);
+        },
+    λ r. own-none (if-long m (r .long)) (if-whole file (r .whole)) (if-summed file (r .summed)) (if-placed file (r .placed)) (if-limited c (r .limited)) (if-exact file c (r .exact)),
+  )
+
+  -- of 1 to 6, only 2 to 6 can be due once the lists are filled
+  abbrev g : Flat
+  g = grammarOf file c
+
+  two-six : Readable file m → (n : ℕ) → Due g n → (2 ≤ n) × (n ≤ 6)
+  two-six r zero d = absurd (false≢true d)
+  two-six r (suc zero) d = absurd (true≢false (sym d ∙ sizes-fine))
+    where
+      sizes-fine : sizesOut (g .rules) (length (g .costs)) (length (g .owners)) (length (g .symbols)) ≡ false
+      sizes-fine =
+          rw (
+            length-bytes file (costsFrom c) (c .tokens),
+            length-numbers file ownersFrom (c .prods),
+            length-numbers file (symbolsFrom c) (c .symbols),
+          )
+          (if-limited c (r .limited))
+  two-six r (suc (suc n)) d = elim (decLe (suc (suc n)) 6) [
+    | yes l ↦ (omega arith, l)
+    | no l ↦ absurd (false≢true (sym (List·getD-eq-default (false ∷ dues g) false {n = suc (suc n)} (let z : length (false ∷ dues g) ≡ 7 = refl in omega (arith, z))) ∙ d))
+  ]
+
+-- what a call came to
+module _ (file : List ℕ) (m : Lists) {said : Outcome Counts} {after : Lists} (x : Call (readDue file m) (Reads file m) m said after) where
+  done : Readable file m → Reads file m said after
+  done r = x .does (due-none-own file m .1 r)
+
+  -- a number other than 2 to 6 is one of the reader's own
+  own : (n : ℕ) → (2 ≤ n → n ≤ 6 → ⊥) → (said ≡ refused n) ↔ (readDue file m ≡ refused n)
+  own n h = (only, x .refuses n)
+    where
+      only : said ≡ refused n → readDue file m ≡ refused n
+      only e = go (readDue file m) refl
+        where
+          go : (o : Outcome (Unit {0})) → readDue file m ≡ o → readDue file m ≡ refused n
+          go (refused k) q = q ∙ ap refused (numbers-same (sym (x .refuses k q) ∙ e))
+          go (answers tt) q =
+              let r = due-none-own file m .0 q in
+              let d = given-due (g file m) n (filled-refused (g file m) (countsOf file) n (sym (done r .answer) ∙ e)) in
+              let b = two-six file m r n (d .0) in
+              absurd (h (b .0) (b .1))
+
+  -- 7 exactly where a lent list is not of its limit's length
+  pub seven : (said ≡ refused 7) ↔ (Long m → ⊥)
+  seven = then (own 7 (λ a b. omega arith)) (due-7 file m)
+
+  -- 20 exactly where the lists are, and the file is not 1 to 98 whole blocks
+  pub twenty : (said ≡ refused 20) ↔ (Long m × (Whole file → ⊥))
+  twenty = then (own 20 (λ a b. omega arith)) (due-20 file m)
+
+  -- 21 exactly where these hold, and some block's check differs
+  pub twenty-one : (said ≡ refused 21) ↔ (Long m × Whole file × Some file (Summed file))
+  twenty-one = then (own 21 (λ a b. omega arith)) (due-21 file m)
+
+  -- 22 exactly where no block's check differs, and some block's number is not its place
+  pub twenty-two : (said ≡ refused 22) ↔ (Long m × Whole file × Each file (Summed file) × Some file (Placed file))
+  twenty-two = then (own 22 (λ a b. omega arith)) (due-22 file m)
+
+  -- 1 exactly where each block's number is its place, and R, T, P or N is outside its limits
+  pub one : (said ≡ refused 1) ↔ (Long m × Whole file × Each file (Summed file) × Each file (Placed file) × (Limited (countsOf file) → ⊥))
+  one = then (own 1 (λ a b. omega arith)) (due-1 file m)
+
+  -- 23 exactly where they are within their limits, and there are other than the blocks due or a spare payload byte is not zero
+  pub twenty-three : (said ≡ refused 23) ↔ (Long m × Whole file × Each file (Summed file) × Each file (Placed file) × Limited (countsOf file) × (Exact file (countsOf file) → ⊥))
+  twenty-three = then (own 23 (λ a b. omega arith)) (due-23 file m)
+
+  -- with these nothing in the four lists changes
+  pub kept : (n : ℕ) → (2 ≤ n → n ≤ 6 → ⊥) → said ≡ refused n → after ≡ m
+  kept n h e = x .keeps n (own n h .0 e)
+
+  -- otherwise the fronts are filled, whatever is answered
+  pub left : Readable file m → after ≡ filled (grammarOf file (countsOf file)) m
+  left r = done r .left
+
+  -- 2 to 6 exactly where none of them is due, and the number is the lowest due for the grammar that the bytes say
+  pub two-to-six : (n : ℕ) → 2 ≤ n → n ≤ 6 → (said ≡ refused n) ↔ (Readable file m × Due (g file m) n × ((k : ℕ) → k < n → Due (g file m) k → ⊥))
+  two-to-six n lo hi = (only, λ h. done (h .0) .answer ∙ due-given (g file m) (answers (countsOf file)) n (h .1) (h .2))
+    where
+      only : said ≡ refused n → Readable file m × Due (g file m) n × ((k : ℕ) → k < n → Due (g file m) k → ⊥)
+      only e = go (readDue file m) refl
+        where
+          go : (o : Outcome (Unit {0})) → readDue file m ≡ o → Readable file m × Due (g file m) n × ((k : ℕ) → k < n → Due (g file m) k → ⊥)
+          go (refused k) q = absurd (other-six file m n lo hi (q ∙ ap refused (numbers-same (sym (x .refuses k q) ∙ e))))
+          go (answers tt) q =
+              let r = due-none-own file m .0 q in
+              let d = given-due (g file m) n (filled-refused (g file m) (countsOf file) n (sym (done r .answer) ∙ e)) in
+              (r, d .0, d .1)
+
+  -- R, T, P and N exactly where the grammar is well-formed too
+  pub counts-given : (k : Counts) → (said ≡ answers k) ↔ (Readable file m × WellFormed (g file m) × (countsOf file ≡ k))
+  counts-given k = (only, λ h. done (h .0) .answer ∙ due-none (g file m) (answers (countsOf file)) (answers-none (g file m) (formed (g file m) (h .1))) ∙ ap answers (h .2))
+    where
+      only : said ≡ answers k → Readable file m × WellFormed (g file m) × (countsOf file ≡ k)
+      only e = go (readDue file m) refl
+        where
+          go : (o : Outcome (Unit {0})) → readDue file m ≡ o → Readable file m × WellFormed (g file m) × (countsOf file ≡ k)
+          go (refused n) q = absurd (not-both (sym e ∙ x .refuses n q))
+          go (answers tt) q =
+              let r = due-none-own file m .0 q in
+              let a = filled-answers (g file m) (countsOf file) k (sym (done r .answer) ∙ e) in
+              (r, well (g file m) (a .0), a .1)

@@ -1,16 +1,16 @@
 -- Each refusal of the reader, and its answer, is given exactly where document 01 says so; what it leaves in each case.
 use mathlib.Core.Bool.{Bool, true, false, true≢false, false≢true}
-use mathlib.Core.List.{List, _∷_}
-use mathlib.Core.Logic.{_⊎_, inl, inr, _↔_}
+use mathlib.Core.List.{List, [], _∷_}
+use mathlib.Core.Logic.{_↔_}
 use mathlib.Core.Path.{_≡_, refl, sym, _∙_, ap}
 use Prim.Native.Nat.{ℕ, zero, suc, _≤_, _<_}
 use native.Mathlib.Decide.{decLe}
 use native.Mathlib.Omega.{arith}
 use lib.Dec.{eqb}
 use lib.ListN.{length, List·getD-eq-default}
-use borrow.Author.Tests.{eqb-false, ne-eqb}
+use borrow.Author.Tests.{ne-eqb}
 use Rattle.grammar.specs.Flat.{Flat}
-use Rattle.grammar.specs.Outcome.{Outcome, answers, refused, unless}
+use Rattle.grammar.specs.Outcome.{Outcome, answers, refused}
 use Rattle.grammar.specs.Production.{checkOf}
 use Rattle.grammar.specs.Refusals.{sizesOut, dues, Due, unlessDue}
 use Rattle.grammar.specs.Well.{WellFormed}
@@ -24,27 +24,10 @@ use Rattle.blocks.specs.Reading.{Lists, filled, readDue, Reads}
 use Rattle.blocks.specs.Conditions.{Long, Whole, Summed, Placed, Each, Some, Limited, Exact, Readable}
 use Rattle.blocks.proofs.Answering.{length-numbers, length-bytes}
 use Rattle.blocks.proofs.Conditions.{long-if, if-long, whole-if, if-whole, summed-if, if-summed, unsummed-if, placed-if, if-placed, misplaced-if, limited-if, if-limited, exact-if, if-exact}
+use Rattle.blocks.proofs.Order.{not-both, numbers-same, Test, test, inOrder, never, first, pass, passes}
 
-not-both : {A : Type 0} {x : A} {n : ℕ} → answers x ≡ refused n → ⊥
-not-both e = let z : _≡_ {A = ℕ} 0 1 = cc in omega arith
-
-numbers-same : {A : Type 0} {m n : ℕ} → _≡_ {A = Outcome A} (refused m) (refused n) → m ≡ n
-numbers-same e = cc
-
--- another number was not given, so the call went on
-past : {A : Type 0} (b : Bool) (n m : ℕ) (x : Outcome A) → eqb n m ≡ false → unless b n x ≡ refused m → (b ≡ false) × (x ≡ refused m)
-past true n m x h e = absurd (eqb-false n m h (numbers-same e))
-past false n m x h e = (refl, e)
-
--- a number was given here, since not later
-here : {A : Type 0} (b : Bool) (n : ℕ) (x : Outcome A) → (x ≡ refused n → ⊥) → unless b n x ≡ refused n → b ≡ true
-here true n x h e = refl
-here false n x h e = absurd (h e)
-
--- none was given
-on : {A : Type 0} (b : Bool) (n : ℕ) (x : Outcome A) {y : A} → unless b n x ≡ answers y → (b ≡ false) × (x ≡ answers y)
-on true n x e = absurd (not-both (sym e))
-on false n x e = (refl, e)
+then : {A B D : Type 0} → A ↔ B → B ↔ D → A ↔ D
+then p q = (λ a. q .0 (p .0 a), λ d. p .1 (q .1 d))
 
 -- a test that passes, where its condition does not hold
 yes-if : {G : Type 0} (b : Bool) → (b ≡ false → G) → (G → ⊥) → b ≡ true
@@ -54,12 +37,9 @@ yes-if false f h = absurd (h (f refl))
 if-yes : {G : Type 0} {b : Bool} → (G → b ≡ false) → b ≡ true → G → ⊥
 if-yes f h g = true≢false (sym h ∙ f g)
 
-then : {A B D : Type 0} → A ↔ B → B ↔ D → A ↔ D
-then p q = (λ a. q .0 (p .0 a), λ d. p .1 (q .1 d))
-
 -- a number from 2 to 6 is no other
-not-six : (n m : ℕ) → 2 ≤ m → m ≤ 6 → (2 ≤ n → n ≤ 6 → ⊥) → eqb n m ≡ false
-not-six n m lo hi h = ne-eqb n m (λ e. h (omega arith) (omega arith))
+not-six : (k n : ℕ) → 2 ≤ n → n ≤ 6 → (2 ≤ k → k ≤ 6 → ⊥) → eqb k n ≡ false
+not-six k n lo hi h = ne-eqb k n (λ e. h (omega arith) (omega arith))
 
 -- after the lists are filled: the lowest of 2 to 6 due
 module _ {A : Type 0} (g : Flat) (x : A) where
@@ -79,169 +59,119 @@ module _ {A : Type 0} (g : Flat) (x : A) where
 
 -- the reader's own refusals
 module _ (file : List ℕ) (m : Lists) where
-  abbrev lent : Bool
-  lent = listsWrong (length (m .owners)) (length (m .starts)) (length (m .symbols)) (length (m .costs))
-
   abbrev c : Counts
   c = countsOf file
 
-  -- where one ends the call, by the tests before it
-  own-7 : lent ≡ true → readDue file m ≡ refused 7
-  own-7 h = rw h
+  abbrev t₇ : Test
+  t₇ = test (listsWrong (length (m .owners)) (length (m .starts)) (length (m .symbols)) (length (m .costs))) 7
 
-  own-20 : lent ≡ false → fileWrong (length file) ≡ true → readDue file m ≡ refused 20
-  own-20 a h = rw (a, h)
+  abbrev t₂₀ : Test
+  t₂₀ = test (fileWrong (length file)) 20
 
-  own-21 : lent ≡ false → fileWrong (length file) ≡ false → checksDiffer file ≡ true → readDue file m ≡ refused 21
-  own-21 a b h = rw (a, b, h)
+  abbrev t₂₁ : Test
+  t₂₁ = test (checksDiffer file) 21
 
-  own-22 : lent ≡ false → fileWrong (length file) ≡ false → checksDiffer file ≡ false → numbersDiffer file ≡ true → readDue file m ≡ refused 22
-  own-22 a b d h = rw (a, b, d, h)
+  abbrev t₂₂ : Test
+  t₂₂ = test (numbersDiffer file) 22
 
-  own-1 : lent ≡ false → fileWrong (length file) ≡ false → checksDiffer file ≡ false → numbersDiffer file ≡ false → countsOut c ≡ true → readDue file m ≡ refused 1
-  own-1 a b d e h = rw (a, b, d, e, h)
+  abbrev t₁ : Test
+  t₁ = test (countsOut c) 1
 
-  own-23 : lent ≡ false → fileWrong (length file) ≡ false → checksDiffer file ≡ false → numbersDiffer file ≡ false → countsOut c ≡ false → blocksWrong file c ≡ true → readDue file m ≡ refused 23
-  own-23 a b d e f h = rw (a, b, d, e, f, h)
+  abbrev t₂₃ : Test
+  t₂₃ = test (blocksWrong file c) 23
 
-  own-none : lent ≡ false → fileWrong (length file) ≡ false → checksDiffer file ≡ false → numbersDiffer file ≡ false → countsOut c ≡ false → blocksWrong file c ≡ false → readDue file m ≡ answers tt
-  own-none a b d e f h = rw (a, b, d, e, f, h)
-
-  -- what is left of the order after each test
-  abbrev rest-23 : Outcome (Unit {0})
-  rest-23 = unless (blocksWrong file c) 23 (answers tt)
-
-  abbrev rest-1 : Outcome (Unit {0})
-  rest-1 = unless (countsOut c) 1 rest-23
-
-  abbrev rest-22 : Outcome (Unit {0})
-  rest-22 = unless (numbersDiffer file) 22 rest-1
-
-  abbrev rest-21 : Outcome (Unit {0})
-  rest-21 = unless (checksDiffer file) 21 rest-22
-
-  abbrev rest-20 : Outcome (Unit {0})
-  rest-20 = unless (fileWrong (length file)) 20 rest-21
-
-  -- a number that is none of these is not given
-  never-23 : (n : ℕ) → eqb 23 n ≡ false → rest-23 ≡ refused n → ⊥
-  never-23 n h e = not-both (past (blocksWrong file c) 23 n (answers tt) h e .1)
-
-  never-1 : (n : ℕ) → eqb 1 n ≡ false → eqb 23 n ≡ false → rest-1 ≡ refused n → ⊥
-  never-1 n g h e = never-23 n h (past (countsOut c) 1 n rest-23 g e .1)
-
-  never-22 : (n : ℕ) → eqb 22 n ≡ false → eqb 1 n ≡ false → eqb 23 n ≡ false → rest-22 ≡ refused n → ⊥
-  never-22 n f g h e = never-1 n g h (past (numbersDiffer file) 22 n rest-1 f e .1)
-
-  never-21 : (n : ℕ) → eqb 21 n ≡ false → eqb 22 n ≡ false → eqb 1 n ≡ false → eqb 23 n ≡ false → rest-21 ≡ refused n → ⊥
-  never-21 n d f g h e = never-22 n f g h (past (checksDiffer file) 21 n rest-22 d e .1)
-
-  never-20 : (n : ℕ) → eqb 20 n ≡ false → eqb 21 n ≡ false → eqb 22 n ≡ false → eqb 1 n ≡ false → eqb 23 n ≡ false → rest-20 ≡ refused n → ⊥
-  never-20 n b d f g h e = never-21 n d f g h (past (fileWrong (length file)) 20 n rest-21 b e .1)
-
-  other-six : (n : ℕ) → 2 ≤ n → n ≤ 6 → readDue file m ≡ refused n → ⊥
-  other-six n lo hi e =
-      never-20 n
-      (not-six 20 n lo hi (λ a b. omega arith))
-      (not-six 21 n lo hi (λ a b. omega arith))
-      (not-six 22 n lo hi (λ a b. omega arith))
-      (not-six 1 n lo hi (λ a b. omega arith))
-      (not-six 23 n lo hi (λ a b. omega arith))
-      (past lent 7 n rest-20 (not-six 7 n lo hi (λ a b. omega arith)) e .1)
+  abbrev tests : List Test
+  tests = t₇ ∷ t₂₀ ∷ t₂₁ ∷ t₂₂ ∷ t₁ ∷ t₂₃ ∷ []
 
   due-7 : (readDue file m ≡ refused 7) ↔ (Long m → ⊥)
-  due-7 = (
-    λ e. if-yes (if-long m) (here lent 7 rest-20 (never-20 7 refl refl refl refl refl) e),
-    λ h. own-7 (yes-if lent (long-if m) h),
-  )
+  due-7 =
+      then (first [] t₇ (t₂₀ ∷ t₂₁ ∷ t₂₂ ∷ t₁ ∷ t₂₃ ∷ []) tt (refl, (refl, (refl, (refl, (refl, tt))))))
+      (λ h. if-yes (if-long m) (h .1), λ h. (tt, yes-if (t₇ .due) (long-if m) h))
 
   due-20 : (readDue file m ≡ refused 20) ↔ (Long m × (Whole file → ⊥))
-  due-20 = (
-    λ e.
-        let a = past lent 7 20 rest-20 refl e in
-        (long-if m (a .0), if-yes (if-whole file) (here (fileWrong (length file)) 20 rest-21 (never-21 20 refl refl refl refl) (a .1))),
-    λ h. own-20 (if-long m (h .0)) (yes-if (fileWrong (length file)) (whole-if file) (h .1)),
-  )
+  due-20 =
+      then (first (t₇ ∷ []) t₂₀ (t₂₁ ∷ t₂₂ ∷ t₁ ∷ t₂₃ ∷ []) (refl, tt) (refl, (refl, (refl, (refl, tt)))))
+      (λ h. (long-if m (h .0 .0), if-yes (if-whole file) (h .1)), λ h. ((if-long m (h .0), tt), yes-if (t₂₀ .due) (whole-if file) (h .1)))
 
   due-21 : (readDue file m ≡ refused 21) ↔ (Long m × Whole file × Some file (Summed file))
-  due-21 = (
-    λ e.
-        let a = past lent 7 21 rest-20 refl e in
-        let b = past (fileWrong (length file)) 20 21 rest-21 refl (a .1) in
-        (long-if m (a .0), whole-if file (b .0), unsummed-if file (here (checksDiffer file) 21 rest-22 (never-22 21 refl refl refl) (b .1))),
-    λ h. own-21 (if-long m (h .0)) (if-whole file (h .1)) (yes-if (checksDiffer file) (λ q. summed-if file q) (λ q. h .2 .2 (q (h .2 .0) (h .2 .1)))),
-  )
+  due-21 =
+      then (first (t₇ ∷ t₂₀ ∷ []) t₂₁ (t₂₂ ∷ t₁ ∷ t₂₃ ∷ []) (refl, (refl, tt)) (refl, (refl, (refl, tt)))) (
+        λ h. (long-if m (h .0 .0), whole-if file (h .0 .1 .0), unsummed-if file (h .1)),
+        λ h. (
+          (if-long m (h .0), (if-whole file (h .1), tt)),
+          yes-if (t₂₁ .due) (λ q. summed-if file q) (λ q. h .2 .2 (q (h .2 .0) (h .2 .1))),
+        ),
+      )
 
   due-22 : (readDue file m ≡ refused 22) ↔ (Long m × Whole file × Each file (Summed file) × Some file (Placed file))
-  due-22 = (
-    λ e.
-        let a = past lent 7 22 rest-20 refl e in
-        let b = past (fileWrong (length file)) 20 22 rest-21 refl (a .1) in
-        let d = past (checksDiffer file) 21 22 rest-22 refl (b .1) in
-        (
-          long-if m (a .0),
-          whole-if file (b .0),
-          summed-if file (d .0),
-          misplaced-if file (here (numbersDiffer file) 22 rest-1 (never-1 22 refl refl) (d .1)),
+  due-22 =
+      then (first (t₇ ∷ t₂₀ ∷ t₂₁ ∷ []) t₂₂ (t₁ ∷ t₂₃ ∷ []) (refl, (refl, (refl, tt))) (refl, (refl, tt))) (
+        λ h. (long-if m (h .0 .0), whole-if file (h .0 .1 .0), summed-if file (h .0 .1 .1 .0), misplaced-if file (h .1)),
+        λ h. (
+          (if-long m (h .0), (if-whole file (h .1), (if-summed file (h .2), tt))),
+          yes-if (t₂₂ .due) (λ q. placed-if file q) (λ q. h .3 .2 (q (h .3 .0) (h .3 .1))),
         ),
-    λ h. own-22 (if-long m (h .0)) (if-whole file (h .1)) (if-summed file (h .2)) (yes-if (numbersDiffer file) (λ q. placed-if file q) (λ q. h .3 .2 (q (h .3 .0) (h .3 .1)))),
-  )
+      )
 
   due-1 : (readDue file m ≡ refused 1) ↔ (Long m × Whole file × Each file (Summed file) × Each file (Placed file) × (Limited c → ⊥))
-  due-1 = (
-    λ e.
-        let a = past lent 7 1 rest-20 refl e in
-        let b = past (fileWrong (length file)) 20 1 rest-21 refl (a .1) in
-        let d = past (checksDiffer file) 21 1 rest-22 refl (b .1) in
-        let f = past (numbersDiffer file) 22 1 rest-1 refl (d .1) in
-        (
-          long-if m (a .0),
-          whole-if file (b .0),
-          summed-if file (d .0),
-          placed-if file (f .0),
-          if-yes (if-limited c) (here (countsOut c) 1 rest-23 (never-23 1 refl) (f .1)),
+  due-1 =
+      then (first (t₇ ∷ t₂₀ ∷ t₂₁ ∷ t₂₂ ∷ []) t₁ (t₂₃ ∷ []) (refl, (refl, (refl, (refl, tt)))) (refl, tt)) (
+        λ h. (
+          long-if m (h .0 .0),
+          whole-if file (h .0 .1 .0),
+          summed-if file (h .0 .1 .1 .0),
+          placed-if file (h .0 .1 .1 .1 .0),
+          if-yes (if-limited c) (h .1),
         ),
-    λ h. own-1 (if-long m (h .0)) (if-whole file (h .1)) (if-summed file (h .2)) (if-placed file (h .3)) (yes-if (countsOut c) (limited-if c) (h .4)),
-  )
+        λ h. ((if-long m (h .0), (if-whole file (h .1), (if-summed file (h .2), (if-placed file (h .3), tt)))), yes-if (t₁ .due) (limited-if c) (h .4)),
+      )
 
   due-23 : (readDue file m ≡ refused 23) ↔ (Long m × Whole file × Each file (Summed file) × Each file (Placed file) × Limited c × (Exact file c → ⊥))
-  due-23 = (
-    λ e.
-        let a = past lent 7 23 rest-20 refl e in
-        let b = past (fileWrong (length file)) 20 23 rest-21 refl (a .1) in
-        let d = past (checksDiffer file) 21 23 rest-22 refl (b .1) in
-        let f = past (numbersDiffer file) 22 23 rest-1 refl (d .1) in
-        let g = past (countsOut c) 1 23 rest-23 refl (f .1) in
-        (
-          long-if m (a .0),
-          whole-if file (b .0),
-          summed-if file (d .0),
-          placed-if file (f .0),
-          limited-if c (g .0),
-          if-yes (if-exact file c) (here (blocksWrong file c) 23 (answers tt) not-both (g .1)),
+  due-23 =
+      then (first (t₇ ∷ t₂₀ ∷ t₂₁ ∷ t₂₂ ∷ t₁ ∷ []) t₂₃ [] (refl, (refl, (refl, (refl, (refl, tt))))) tt) (
+        λ h. (
+          long-if m (h .0 .0),
+          whole-if file (h .0 .1 .0),
+          summed-if file (h .0 .1 .1 .0),
+          placed-if file (h .0 .1 .1 .1 .0),
+          limited-if c (h .0 .1 .1 .1 .1 .0),
+          if-yes (if-exact file c) (h .1),
         ),
-    λ h. own-23 (if-long m (h .0)) (if-whole file (h .1)) (if-summed file (h .2)) (if-placed file (h .3)) (if-limited c (h .4)) (yes-if (blocksWrong file c) (exact-if file c) (h .5)),
-  )
+        λ h. (
+          (if-long m (h .0), (if-whole file (h .1), (if-summed file (h .2), (if-placed file (h .3), (if-limited c (h .4), tt))))),
+          yes-if (t₂₃ .due) (exact-if file c) (h .5),
+        ),
+      )
 
   due-none-own : (readDue file m ≡ answers tt) ↔ Readable file m
   due-none-own = (
     λ e.
-        let a = on lent 7 rest-20 e in
-        let b = on (fileWrong (length file)) 20 rest-21 (a .1) in
-        let d = on (checksDiffer file) 21 rest-22 (b .1) in
-        let f = on (numbersDiffer file) 22 rest-1 (d .1) in
-        let g = on (countsOut c) 1 rest-23 (f .1) in
-        let h = on (blocksWrong file c) 23 (answers tt) (g .1) in
+        let h = pass tests e in
         record {
-          long = long-if m (a .0);
-          whole = whole-if file (b .0);
-          summed = summed-if file (d .0);
-          placed = placed-if file (f .0);
-          limited = limited-if c (g .0);
-          exact = exact-if file c (h .0);
+          long = long-if m (h .0);
+          whole = whole-if file (h .1 .0);
+          summed = summed-if file (h .1 .1 .0);
+          placed = placed-if file (h .1 .1 .1 .0);
+          limited = limited-if c (h .1 .1 .1 .1 .0);
+          exact = exact-if file c (h .1 .1 .1 .1 .1 .0);
         },
-    λ r. own-none (if-long m (r .long)) (if-whole file (r .whole)) (if-summed file (r .summed)) (if-placed file (r .placed)) (if-limited c (r .limited)) (if-exact file c (r .exact)),
+    λ r.
+        passes tests (
+          if-long m (r .long),
+          (if-whole file (r .whole), (if-summed file (r .summed), (if-placed file (r .placed), (if-limited c (r .limited), (if-exact file c (r .exact), tt))))),
+        ),
   )
+
+  other-six : (n : ℕ) → 2 ≤ n → n ≤ 6 → readDue file m ≡ refused n → ⊥
+  other-six n lo hi =
+      let o : (k : ℕ) → (2 ≤ k → k ≤ 6 → ⊥) → eqb k n ≡ false = λ k h. not-six k n lo hi h in
+      never tests n (
+        o 7 (λ a b. omega arith),
+        (
+          o 20 (λ a b. omega arith),
+          (o 21 (λ a b. omega arith), (o 22 (λ a b. omega arith), (o 1 (λ a b. omega arith), (o 23 (λ a b. omega arith), tt)))),
+        ),
+      )
 
   -- of 1 to 6, only 2 to 6 can be due once the lists are filled
   abbrev g : Flat

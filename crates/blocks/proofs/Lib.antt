@@ -3,4 +3,5 @@ pub mod Steps
 pub mod Conditions
 pub mod Answering
 pub mod Determined
+pub mod Order
 pub mod Exactly

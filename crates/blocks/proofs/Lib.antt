@@ -5,3 +5,5 @@ pub mod Answering
 pub mod Determined
 pub mod Order
 pub mod Exactly
+pub mod Entries
+pub mod G1

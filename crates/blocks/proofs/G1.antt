@@ -37,7 +37,7 @@ block =
     ++ replicate 456 0
     ++ (203 ∷ 1 ∷ [])
 
-pub block-sum : blockSum block 0 ≡ 459
+pub block-sum : blockSum block 0 510 ≡ 459
 unfolding block blockSum total
 block-sum = refl
 

@@ -29,7 +29,7 @@ pub out-is : (c : Counts) (r t p n : ℕ) (b : Bool) → r ≡ c .rules → t �
 out-is c r t p n b er et ep en e = e ∙ rw (er, et, ep, en)
 
 -- 21
-pub check-is : (file : List ℕ) (b x w s : ℕ) → x ≡ blockCheck file b → w ≡ x → s ≡ blockSum file b → not (eqb w (s % 65536)) ≡ checkDiffers file b
+pub check-is : (file : List ℕ) (b x w s : ℕ) → x ≡ blockCheck file b → w ≡ x → s ≡ blockSum file b 510 → not (eqb w (s % 65536)) ≡ checkDiffers file b
 unfolding checkDiffers
 check-is file b x w s ex ew es = rw (ew, ex, es)
 

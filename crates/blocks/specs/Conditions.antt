@@ -22,7 +22,7 @@ pub record Whole (file : List ℕ) : Type 0 where
 
 -- not 21: block b's check is the sum of its first 510 bytes modulo 65536
 abbrev pub Summed : List ℕ → (b : ℕ) → Type 0
-Summed file b = blockCheck file b ≡ blockSum file b % 65536
+Summed file b = blockCheck file b ≡ blockSum file b 510 % 65536
 
 -- not 22: block b's number is its place
 abbrev pub Placed : List ℕ → (b : ℕ) → Type 0

@@ -39,9 +39,9 @@ payload file i = inBlock file (i / 508) (2 + i % 508)
 abbrev pub blockCheck : List ℕ → (b : ℕ) → ℕ
 blockCheck file b = joined (inBlock file b 510) (inBlock file b 511)
 
--- the sum of the first 510 bytes
-unfoldable pub blockSum : List ℕ → (b : ℕ) → ℕ
-blockSum file b = total 510 (λ k. inBlock file b k)
+-- the sum of its first n bytes
+unfoldable pub blockSum : List ℕ → (b n : ℕ) → ℕ
+blockSum file b n = total n (λ k. inBlock file b k)
 
 -- the number in payload bytes i and i + 1
 abbrev pub number : List ℕ → (i : ℕ) → ℕ

@@ -19,7 +19,7 @@ fileWrong n = eqb n 0 || (not (eqb (n % 512) 0) || ltb 98 (n / 512))
 
 -- block b's check differs from the sum of the first 510 bytes modulo 65536
 unfoldable pub checkDiffers : List ℕ → (b : ℕ) → Bool
-checkDiffers file b = not (eqb (blockCheck file b) (blockSum file b % 65536))
+checkDiffers file b = not (eqb (blockCheck file b) (blockSum file b 510 % 65536))
 
 -- 21: a block's check differs
 unfoldable pub checksDiffer : List ℕ → Bool

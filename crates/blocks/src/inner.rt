@@ -73,14 +73,14 @@ pub fn file_wrong(len: usize) -> bool
     (len == 0) | ((len % 512 != 0) | (98 < len / 512))
 }
 
-// The sum of the first 510 bytes of block b.
-fn block_sum(file: &[u8], b: usize) -> usize
-    requires { ⌜ b < blocks (now file) ⌝ }
-    ensures { λ r. ⌜ r ≡ blockSum (now (file .entry)) b ⌝ }
+// The sum of the first n bytes of block b.
+fn block_sum(file: &[u8], b: usize, n: usize) -> usize
+    requires { ⌜ (b < blocks (now file)) × (n ≤ 512) ⌝ }
+    ensures { λ r. ⌜ r ≡ blockSum (now (file .entry)) b n ⌝ }
 {
     let mut sum: usize = 0;
     let mut k: usize = 0;
-    while k < 510 {
+    while k < n {
         sum += byte(block_byte(file, b, k));
         k += 1;
     }
@@ -91,7 +91,7 @@ fn check_differs(file: &[u8], b: usize) -> bool
     requires { ⌜ b < blocks (now file) ⌝ }
     ensures { λ r. ⌜ r ≡ checkDiffers (now (file .entry)) b ⌝ }
 {
-    wide(block_number(file, b, 510)) != block_sum(file, b) % 65536
+    wide(block_number(file, b, 510)) != block_sum(file, b, 510) % 65536
 }
 
 // Refusal 21.

@@ -8,10 +8,10 @@ use Rattle.blocks.proofs.inner.block_sum.Statement.{statement}
 use Rattle.blocks.proofs.inner.block_sum.Tie as tie
 
 abbrev Inv-loop : tie.InvT-loop
-Inv-loop file b sum₀ k₀ sum k = (k ≤ 510) × (sum ≤ 255 * k) × (sum ≡ total k (λ j. inBlock file b j))
+Inv-loop file b n sum₀ k₀ sum k = (k ≤ n) × (sum ≤ 255 * k) × (sum ≡ total k (λ j. inBlock file b j))
 
 abbrev μ-loop : tie.MeasureT-loop
-μ-loop file b sum₀ k₀ sum k = 510 - k
+μ-loop file b n sum₀ k₀ sum k = n - k
 
 loop-holds : tie.Need-loop-holds Inv-loop μ-loop
 loop-holds c = search (needs, total-none)

@@ -1,13 +1,12 @@
 -- What the returns of `read` owe, from what its steps found on the way.
 use mathlib.Core.Bool.{Bool, true, false}
-use mathlib.Core.List.{List, _++_}
-use mathlib.Core.Path.{_≡_, refl, sym, _∙_, ap}
-use Prim.Native.Nat.{ℕ, _+_, _*_, _≤_, _<_}
+use mathlib.Core.List.{List}
+use mathlib.Core.Path.{_≡_, sym, _∙_, ap}
+use Prim.Native.Nat.{ℕ, _+_, _≤_}
 use native.Mathlib.Omega.{arith}
 use lib.ListN.{length, take, drop, length-append}
 use lib.Seq.{take-at}
 use Rattle.theory.proofs.Bools.{told}
-use Rattle.grammar.specs.Flat.{Flat, flat}
 use Rattle.grammar.specs.Outcome.{Outcome, answers, refused}
 use Rattle.grammar.specs.Production.{checkedIs, checkOf, numberOf}
 use Rattle.grammar.specs.declared.Checked.{Checked}

@@ -1,18 +1,18 @@
 -- Each test of the reader's own refusals fails exactly where its condition holds.
-use mathlib.Core.Bool.{Bool, true, false, not, _||_}
+use mathlib.Core.Bool.{Bool, true, false, not}
 use mathlib.Core.List.{List}
-use mathlib.Core.Path.{_≡_, refl, sym, _∙_, ap, subst}
+use mathlib.Core.Path.{_≡_, subst}
 use Prim.Native.Nat.{ℕ, _+_, _*_, _-_, _/_, _%_, _≤_, _<_}
 use native.Mathlib.Omega.{arith}
-use lib.Dec.{eqb, ltb}
+use lib.Dec.{eqb}
 use lib.ListN.{length}
 use borrow.Author.Tests.{eqb-true, eqb-false, ltb-false, eq-eqb, ne-eqb, le-ltb, not-true, not-false}
 use Rattle.theory.proofs.Below.{none-at, all-none, some-found}
 use Rattle.theory.proofs.Bools.{or-none}
-use Rattle.grammar.specs.Refusals.{outside, sizesOut}
+use Rattle.grammar.specs.Refusals.{sizesOut}
 use Rattle.grammar.proofs.Well.{limits, limits-hold, sizes-in}
 use Rattle.blocks.specs.declared.Counts.{Counts}
-use Rattle.blocks.specs.Layout.{blocks, blockNumber, blockCheck, blockSum, payload, payloadEnd}
+use Rattle.blocks.specs.Layout.{blocks, payload, payloadEnd}
 use Rattle.blocks.specs.Refusals.{listsWrong, fileWrong, checkDiffers, checksDiffer, numbersDiffer, countsOut, spareUsed, blocksDue, blocksWrong}
 use Rattle.blocks.specs.Reading.{Lists}
 use Rattle.blocks.specs.Conditions.{Long, Whole, Summed, Placed, Each, Some, Limited, Exact}

@@ -24,7 +24,7 @@ use Rattle.blocks.specs.Reading.{Lists, filled, readDue, Reads}
 use Rattle.blocks.specs.Conditions.{Long, Whole, Summed, Placed, Each, Some, Limited, Exact, Readable}
 use Rattle.blocks.proofs.Answering.{length-numbers, length-bytes}
 use Rattle.blocks.proofs.Conditions.{long-if, if-long, whole-if, if-whole, summed-if, if-summed, unsummed-if, placed-if, if-placed, misplaced-if, limited-if, if-limited, exact-if, if-exact}
-use Rattle.blocks.proofs.Order.{not-both, numbers-same, Test, test, inOrder, never, first, pass, passes}
+use Rattle.blocks.proofs.Order.{not-both, numbers-same, Test, test, never, first, pass, passes}
 
 then : {A B D : Type 0} → A ↔ B → B ↔ D → A ↔ D
 then p q = (λ a. q .0 (p .0 a), λ d. p .1 (q .1 d))

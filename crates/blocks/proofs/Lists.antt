@@ -5,9 +5,8 @@ use Prim.Native.Nat.{ℕ, zero, suc, _+_, _≤_, _<_}
 use native.Mathlib.Nat.{le-antisymm}
 use native.Mathlib.Numerals.{add-one}
 use native.Mathlib.Omega.{arith}
-use lib.ListN.{length, getD, take, drop, set, length-set, length-append, length-take, length-drop}
-use lib.Seq.{append-snoc, drop-cons, set-at, take-at}
-use Rattle.grammar.specs.Flat.{at}
+use lib.ListN.{length, getD, drop, set, length-set, length-append}
+use lib.Seq.{append-snoc, drop-cons, set-at}
 use Rattle.blocks.specs.Layout.{total, listed}
 use Rattle.blocks.specs.Reading.{over}
 

@@ -1,15 +1,14 @@
 -- What the reader's steps owe, from what they found on their way.
-use mathlib.Core.Bool.{Bool, true, false, not, _||_}
+use mathlib.Core.Bool.{Bool, true, false, not}
 use mathlib.Core.List.{List}
-use mathlib.Core.Path.{_≡_, refl, sym, _∙_, ap}
-use Prim.Native.Nat.{ℕ, _+_, _*_, _-_, _/_, _%_, _≤_, _<_}
+use mathlib.Core.Path.{_≡_, sym, _∙_}
+use Prim.Native.Nat.{ℕ, _+_, _*_, _/_, _%_, _≤_}
 use native.Mathlib.Omega.{arith}
 use lib.Dec.{eqb}
 use lib.ListN.{length, take}
 use lib.Seq.{length-take-le}
-use borrow.Author.Tests.{eq-eqb, ne-eqb, eqb-true, not-false}
-use Rattle.grammar.specs.Flat.{at, flat}
-use Rattle.grammar.specs.Outcome.{Outcome}
+use borrow.Author.Tests.{eq-eqb, ne-eqb}
+use Rattle.grammar.specs.Flat.{flat}
 use Rattle.grammar.specs.Production.{checkedIs, checkOf}
 use Rattle.grammar.specs.Refusals.{sizesOut}
 use Rattle.grammar.specs.declared.Checked.{Checked}
@@ -17,7 +16,7 @@ use Rattle.blocks.specs.declared.Counts.{Counts}
 use Rattle.blocks.specs.Layout.{blocks, blockNumber, blockCheck, blockSum, number, payload, numbers, bytes, countsOf, ownersFrom, startsFrom, symbolsFrom, costsFrom, payloadEnd, grammarOf}
 use Rattle.blocks.specs.Refusals.{checkDiffers, spareUsed, blocksDue, blocksWrong, countsOut}
 use Rattle.blocks.specs.Steps.{fronts}
-use Rattle.blocks.specs.Reading.{Lists, lists, over, filled}
+use Rattle.blocks.specs.Reading.{lists, over, filled}
 
 -- the counts
 pub counts-are : (file : List ℕ) (r t p n : ℕ) → r ≡ number file 0 → t ≡ number file 2 → p ≡ number file 4 → n ≡ number file 6 → record { rules = r; tokens = t; prods = p; symbols = n } ≡ countsOf file

@@ -1,5 +1,4 @@
 use Rattle.blocks.proofs.Answering.{read-7, read-20, read-21, read-22, read-1, read-23, fits, fronts-long, read-refused, read-counts, counts-held}
-use native.Mathlib.Omega.{arith}
 use borrow.Author.Needs.{needs}
 use Rattle.blocks.proofs.read.Statement.{statement}
 use Rattle.blocks.proofs.read.Tie as tie

@@ -3,7 +3,6 @@ use mathlib.Core.Path.{_≡_}
 use Rattle.blocks.specs.Layout.{total, inBlock, blockSum}
 use Rattle.blocks.proofs.Lists.{total-none, total-more, total-all}
 use borrow.Author.Needs.{needs}
-use native.Mathlib.Omega.{arith}
 use Rattle.blocks.proofs.inner.block_sum.Statement.{statement}
 use Rattle.blocks.proofs.inner.block_sum.Tie as tie
 

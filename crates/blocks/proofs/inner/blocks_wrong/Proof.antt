@@ -1,5 +1,4 @@
-use Rattle.blocks.proofs.Steps.{blocks-other, blocks-due, payload-held}
-use native.Mathlib.Omega.{arith}
+use Rattle.blocks.proofs.Steps.{blocks-other, blocks-due}
 use borrow.Author.Needs.{needs}
 use Rattle.blocks.proofs.inner.blocks_wrong.Statement.{statement}
 use Rattle.blocks.proofs.inner.blocks_wrong.Tie as tie

@@ -1,5 +1,4 @@
 use Rattle.blocks.proofs.Steps.{check-is}
-use native.Mathlib.Omega.{arith}
 use borrow.Author.Needs.{needs}
 use Rattle.blocks.proofs.inner.check_differs.Statement.{statement}
 use Rattle.blocks.proofs.inner.check_differs.Tie as tie

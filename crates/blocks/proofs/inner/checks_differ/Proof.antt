@@ -7,7 +7,6 @@ use Rattle.theory.proofs.Bools.{told}
 use Rattle.blocks.specs.Layout.{blocks}
 use Rattle.blocks.specs.Refusals.{checkDiffers, checksDiffer}
 use borrow.Author.Needs.{needs}
-use native.Mathlib.Omega.{arith}
 use Rattle.blocks.proofs.inner.checks_differ.Statement.{statement}
 use Rattle.blocks.proofs.inner.checks_differ.Tie as tie
 

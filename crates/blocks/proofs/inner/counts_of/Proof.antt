@@ -1,5 +1,4 @@
 use Rattle.blocks.proofs.Steps.{counts-are}
-use native.Mathlib.Omega.{arith}
 use borrow.Author.Needs.{needs}
 use Rattle.blocks.proofs.inner.counts_of.Statement.{statement}
 use Rattle.blocks.proofs.inner.counts_of.Tie as tie

@@ -1,5 +1,4 @@
 use Rattle.blocks.proofs.Steps.{out-is}
-use native.Mathlib.Omega.{arith}
 use borrow.Author.Needs.{needs}
 use Rattle.blocks.proofs.inner.counts_out.Statement.{statement}
 use Rattle.blocks.proofs.inner.counts_out.Tie as tie

@@ -1,6 +1,5 @@
 use Rattle.blocks.specs.Refusals.{fileWrong}
 use borrow.Author.Needs.{needs}
-use native.Mathlib.Omega.{arith}
 use Rattle.blocks.proofs.inner.file_wrong.Statement.{statement}
 use Rattle.blocks.proofs.inner.file_wrong.Tie as tie
 

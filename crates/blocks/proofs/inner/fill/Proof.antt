@@ -1,5 +1,4 @@
 use Rattle.blocks.proofs.Steps.{fills}
-use native.Mathlib.Omega.{arith}
 use borrow.Author.Needs.{needs}
 use Rattle.blocks.proofs.inner.fill.Statement.{statement}
 use Rattle.blocks.proofs.inner.fill.Tie as tie

@@ -2,7 +2,6 @@ use Prim.Native.Nat.{_+_, _-_, _≤_}
 use Rattle.blocks.specs.Layout.{payload, bytes}
 use Rattle.blocks.proofs.Lists.{Filling, fill-start, fill-on, fill-end}
 use borrow.Author.Needs.{needs}
-use native.Mathlib.Omega.{arith}
 use Rattle.blocks.proofs.inner.fill_bytes.Statement.{statement}
 use Rattle.blocks.proofs.inner.fill_bytes.Tie as tie
 

@@ -1,6 +1,5 @@
 use Rattle.blocks.specs.Refusals.{listsWrong}
 use borrow.Author.Needs.{needs}
-use native.Mathlib.Omega.{arith}
 use Rattle.blocks.proofs.inner.lists_wrong.Statement.{statement}
 use Rattle.blocks.proofs.inner.lists_wrong.Tie as tie
 

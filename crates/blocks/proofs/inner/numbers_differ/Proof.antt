@@ -8,7 +8,6 @@ use Rattle.blocks.specs.Layout.{blocks, blockNumber}
 use Rattle.blocks.specs.Refusals.{numbersDiffer}
 use Rattle.blocks.proofs.Steps.{number-differs, number-same}
 use borrow.Author.Needs.{needs}
-use native.Mathlib.Omega.{arith}
 use Rattle.blocks.proofs.inner.numbers_differ.Statement.{statement}
 use Rattle.blocks.proofs.inner.numbers_differ.Tie as tie
 

@@ -8,7 +8,6 @@ use Rattle.blocks.specs.Layout.{blocks, payload}
 use Rattle.blocks.specs.Refusals.{spareUsed}
 use Rattle.blocks.proofs.Steps.{spare-not, spare-zero}
 use borrow.Author.Needs.{needs}
-use native.Mathlib.Omega.{arith}
 use Rattle.blocks.proofs.inner.spare_used.Statement.{statement}
 use Rattle.blocks.proofs.inner.spare_used.Tie as tie
 

@@ -178,7 +178,7 @@ module _ (g : Flat) where
   }
 
 -- the other way, test by test
-limits-hold : (lo hi n : ℕ) → lo ≤ n → n ≤ hi → outside lo hi n ≡ false
+pub limits-hold : (lo hi n : ℕ) → lo ≤ n → n ≤ hi → outside lo hi n ≡ false
 limits-hold lo hi n a b = rw (le-ltb n lo a, le-ltb hi n b)
 
 symbol-in : (R T s : ℕ) → 1 ≤ T → SymbolFits R T s → symbolOut R T s ≡ false

@@ -6,9 +6,10 @@ ghost use mathlib.Core.Bool.{false};
 ghost use Prim.Native.Nat.{ℕ, _+_, _≤_, _<_};
 ghost use lib.ListN.{length, getD};
 ghost use Rattle.grammar.specs.Flat.{flat, at};
-ghost use Rattle.grammar.specs.Refusals.{outside, sizesOut, falls, startsWrong, ownerOut, owns, ruleUnowned, symbolOut, symbolsOut, startCount, oneRule, startLong, startHeld, startWrong};
+ghost use Rattle.grammar.specs.Refusals.{falls, startsWrong, ownerOut, owns, ruleUnowned, symbolOut, symbolsOut, startCount, oneRule, startLong, startHeld, startWrong};
 ghost use Rattle.grammar.specs.Well.{Laid};
 ghost use Rattle.grammar.specs.Production.{checkedIs, lengthIs, checkOf, productionOf, orEmpty, lengthOf};
+use crate::inner::sizes_out;
 use crate::inner::start_at;
 use crate::inner::wide;
 
@@ -29,21 +30,6 @@ pub enum Checked {
 pub enum Length {
     Is(usize),
     Refused(u16),
-}
-
-fn is_outside(lo: usize, hi: usize, n: usize) -> bool
-    ensures { λ r. ⌜ r ≡ outside lo hi n ⌝ }
-{
-    (n < lo) | (hi < n)
-}
-
-// Refusal 1.
-fn sizes_out(rules: usize, tokens: usize, prods: usize, symbols: usize) -> bool
-    ensures { λ r. ⌜ r ≡ sizesOut rules tokens prods symbols ⌝ }
-{
-    is_outside(2, 512, rules)
-        | (is_outside(1, 512, tokens)
-            | (is_outside(2, 4096, prods) | is_outside(1, 16384, symbols)))
 }
 
 fn starts_fall(starts: &[u16], prods: usize) -> bool

@@ -1,0 +1,9 @@
+pub mod Lists
+pub mod Steps
+pub mod Conditions
+pub mod Answering
+pub mod Determined
+pub mod Order
+pub mod Exactly
+pub mod Entries
+pub mod G1

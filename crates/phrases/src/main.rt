@@ -172,6 +172,15 @@ fn many(tokens: &[u16], token: u16) -> u32
     n
 }
 
+fn say_case(name: &[u8], rule: u16, room: usize) {
+    say(name);
+    say(b", rule");
+    say_number(rule as u32);
+    say(b", room ");
+    io::print_decimal(1, room as u64);
+    say(b":");
+}
+
 // The call, its answer and the tables that it leaves.
 fn tell(
     name: &[u8],
@@ -186,12 +195,7 @@ fn tell(
     lengths: &mut [u32],
     out: &mut [u16],
 ) {
-    say(name);
-    say(b", rule");
-    say_number(rule as u32);
-    say(b", room ");
-    io::print_decimal(1, out.len() as u64);
-    say(b":");
+    say_case(name, rule, out.len());
     let r = grammar::RIdx(rule);
     say_length(sentences::min_sentence(
         rules,
@@ -280,7 +284,7 @@ fn small(
 
 // What a long output holds: its first 16 places, its last two, and how many are token 0, token 15 and blank.
 fn digest(out: &[u16])
-    requires { ⌜ (16 ≤ length (now out)) × ((65534 ≤ length (now out)) × (length (now out) ≤ 65536)) ⌝ }
+    requires { ⌜ (65534 ≤ length (now out)) × (length (now out) ≤ 65536) ⌝ }
 {
     say_tokens(&out[..16]);
     say(b" ..; places 65534, 65535:");
@@ -292,6 +296,7 @@ fn digest(out: &[u16])
     say(b"\n");
 }
 
+// That of the whole output.
 fn say_out(out: &[u16; 65536]) {
     digest(out);
 }
@@ -477,7 +482,7 @@ fn circle(name: &[u8], rule: u16) {
     );
 }
 
-// A circle of A and B, and two whose second choice it is. Rules 0 start, 1 A, 2 B; tokens 0 a, 1 eof.
+// A: B; A: a, and B: A and B: a in either order: a circle if B: A comes first. Rules 0 start, 1 A, 2 B; tokens 0 a, 1 eof.
 fn pair(name: &[u8], symbols: &[u16; 5]) {
     small(
         name,
@@ -661,7 +666,7 @@ fn long_ones() {
     long_and_circle(b"a circle, then too long", 32787, 32770, 1);
 }
 
-// The call on G6 or what is like it.
+// The call on G6, with another R or other symbols in it.
 fn answer(
     rules: u16,
     symbols: &[u16],
@@ -686,7 +691,7 @@ fn answer(
     ));
 }
 
-// The call with the fronts of three lists of words, which it must leave as they are, and the output too.
+// That call with the fronts of three lists of words; it must leave them and the output as they are.
 fn refused(
     name: &[u8],
     rules: u16,

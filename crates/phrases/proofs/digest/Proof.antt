@@ -1,10 +1,17 @@
+use mathlib.Core.List.{List}
+use Prim.Native.Nat.{_≤_}
+use native.Mathlib.Omega.{arith}
+use lib.ListN.{length}
 use lib.Seq.{length-take-le}
 use borrow.Author.Needs.{needs}
 use Rattle.phrases.proofs.digest.Statement.{statement}
 use Rattle.phrases.proofs.digest.Tie as tie
 
+sixteen : {A : Type 0} (l : List A) → 65534 ≤ length l → 16 ≤ length l
+sixteen l h = omega arith
+
 slice-aggregate-say-tokens : tie.Need-slice-aggregate-say-tokens
-slice-aggregate-say-tokens c = search (needs, length-take-le)
+slice-aggregate-say-tokens c = search (needs, length-take-le, sixteen)
 
 say-tokens-requires : tie.Need-say-tokens-requires
 say-tokens-requires c κs = search needs

@@ -3,7 +3,6 @@ use crate::Counts;
 use grammar::Checked;
 use grammar::inner::sizes_out;
 use grammar::inner::wide;
-ghost use mathlib.Core.Bool.{false};
 ghost use mathlib.Core.Path.{_≡_};
 ghost use Prim.Native.Nat.{_+_, _*_, _≤_, _<_, _^_};
 ghost use lib.ListN.{length};

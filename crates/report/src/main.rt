@@ -104,13 +104,21 @@ fn report(
     );
 }
 
+// The words of a table of marks.
+fn table_words(rules: usize, tokens: usize) -> usize
+    requires { ⌜ (rules ≤ 512) × (tokens ≤ 512) ⌝ }
+    ensures { λ r. ⌜ r ≤ 8192 ⌝ }
+{
+    rules * words_for(tokens)
+}
+
 // The report of a grammar, with tables of their exact lengths.
 fn grammar_report(rules: u16, owners: &[u16], starts: &[u16], symbols: &[u16], costs: &[u8])
     requires { ⌜ (rules ≤ 512) × (length (now costs) ≤ 512) ⌝ }
 {
     let n = wide(rules);
     let w = words_for(n);
-    let k = n * words_for(costs.len());
+    let k = table_words(n, costs.len());
     let mut empty = [0; 16];
     let mut first = [0; 8192];
     let mut follow = [0; 8192];

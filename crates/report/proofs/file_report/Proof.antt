@@ -8,63 +8,63 @@ use Rattle.blocks.proofs.read.Reads as read-reads
 use Rattle.report.proofs.fronts_report.Reads as fronts-report-reads
 use Rattle.report.proofs.refused.Reads as refused-reads
 
--- src/main.rt:156:32
+-- src/main.rt:164:32
 slice-aggregate-read : tie.Need-slice-aggregate-read
 slice-aggregate-read c = search needs
 
--- src/main.rt:156:45
+-- src/main.rt:164:45
 slice-aggregate-read-2 : tie.Need-slice-aggregate-read-2
 slice-aggregate-read-2 c = search needs
 
--- src/main.rt:156:58
+-- src/main.rt:164:58
 slice-aggregate-read-3 : tie.Need-slice-aggregate-read-3
 slice-aggregate-read-3 c = search needs
 
--- src/main.rt:156:72
+-- src/main.rt:164:72
 slice-aggregate-read-4 : tie.Need-slice-aggregate-read-4
 slice-aggregate-read-4 c = search needs
 
--- src/main.rt:156:9
+-- src/main.rt:164:9
 read-requires : tie.Need-read-requires
 read-requires c κs = search needs
 
--- src/main.rt:158:25
+-- src/main.rt:166:25
 enum-known-r : tie.Need-enum-known-r
 enum-known-r c = search needs
 
--- src/main.rt:159:30
+-- src/main.rt:167:30
 slice-aggregate-fronts-report : tie.Need-slice-aggregate-fronts-report
 slice-aggregate-fronts-report c = search needs
 
--- src/main.rt:159:39
+-- src/main.rt:167:39
 slice-aggregate-fronts-report-2 : tie.Need-slice-aggregate-fronts-report-2
 slice-aggregate-fronts-report-2 c = search needs
 
--- src/main.rt:159:48
+-- src/main.rt:167:48
 slice-aggregate-fronts-report-3 : tie.Need-slice-aggregate-fronts-report-3
 slice-aggregate-fronts-report-3 c = search needs
 
--- src/main.rt:159:58
+-- src/main.rt:167:58
 slice-aggregate-fronts-report-4 : tie.Need-slice-aggregate-fronts-report-4
 slice-aggregate-fronts-report-4 c = search needs
 
--- src/main.rt:159:13
+-- src/main.rt:167:13
 fronts-report-requires : tie.Need-fronts-report-requires
 fronts-report-requires c κs = search needs
 
--- src/main.rt:161:26
+-- src/main.rt:169:26
 enum-known-r-2 : tie.Need-enum-known-r-2
 enum-known-r-2 c = search needs
 
--- src/main.rt:162:13
+-- src/main.rt:170:13
 refused-requires : tie.Need-refused-requires
 refused-requires c κs = search needs
 
--- src/main.rt:151:1
+-- src/main.rt:159:1
 returns : tie.Need-returns
 returns c = search needs
 
--- src/main.rt:151:1
+-- src/main.rt:159:1
 returns-2 : tie.Need-returns-2
 returns-2 c = search needs
 

@@ -7,43 +7,43 @@ use Rattle.report.proofs.fronts_report.Lts as lts
 use Rattle.grammar.proofs.inner.wide.Reads as wide-reads
 use Rattle.report.proofs.grammar_report.Reads as grammar-report-reads
 
--- src/main.rt:138:9
+-- src/main.rt:146:9
 wide-requires : tie.Need-wide-requires
 wide-requires c κs = search needs
 
--- src/main.rt:139:13
+-- src/main.rt:147:13
 add-e : tie.Need-add-e
 add-e c = search needs
 
--- src/main.rt:140:9
+-- src/main.rt:148:9
 wide-requires-2 : tie.Need-wide-requires-2
 wide-requires-2 c κs = search needs
 
--- src/main.rt:141:9
+-- src/main.rt:149:9
 wide-requires-3 : tie.Need-wide-requires-3
 wide-requires-3 c κs = search needs
 
--- src/main.rt:144:9
+-- src/main.rt:152:9
 slice-aggregate-grammar-report : tie.Need-slice-aggregate-grammar-report
 slice-aggregate-grammar-report c = search needs
 
--- src/main.rt:145:9
+-- src/main.rt:153:9
 slice-aggregate-grammar-report-2 : tie.Need-slice-aggregate-grammar-report-2
 slice-aggregate-grammar-report-2 c = search needs
 
--- src/main.rt:146:9
+-- src/main.rt:154:9
 slice-aggregate-grammar-report-3 : tie.Need-slice-aggregate-grammar-report-3
 slice-aggregate-grammar-report-3 c = search needs
 
--- src/main.rt:147:9
+-- src/main.rt:155:9
 slice-aggregate-grammar-report-4 : tie.Need-slice-aggregate-grammar-report-4
 slice-aggregate-grammar-report-4 c = search needs
 
--- src/main.rt:142:5
+-- src/main.rt:150:5
 grammar-report-requires : tie.Need-grammar-report-requires
 grammar-report-requires c κs = search needs
 
--- src/main.rt:134:1
+-- src/main.rt:142:1
 returns : tie.Need-returns
 returns c = search needs
 

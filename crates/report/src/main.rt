@@ -104,7 +104,21 @@ fn report(
     );
 }
 
-// The words of a table of marks.
+// The rules, the words of a row by rule, and the words of a table of marks.
+fn rule_count(rules: u16) -> usize
+    requires { ⌜ rules ≤ 512 ⌝ }
+    ensures { λ r. ⌜ r ≤ 512 ⌝ }
+{
+    rules as usize
+}
+
+fn row_words(rules: usize) -> usize
+    requires { ⌜ rules ≤ 512 ⌝ }
+    ensures { λ r. ⌜ r ≤ 16 ⌝ }
+{
+    words_for(rules)
+}
+
 fn table_words(rules: usize, tokens: usize) -> usize
     requires { ⌜ (rules ≤ 512) × (tokens ≤ 512) ⌝ }
     ensures { λ r. ⌜ r ≤ 8192 ⌝ }
@@ -116,8 +130,8 @@ fn table_words(rules: usize, tokens: usize) -> usize
 fn grammar_report(rules: u16, owners: &[u16], starts: &[u16], symbols: &[u16], costs: &[u8])
     requires { ⌜ (rules ≤ 512) × (length (now costs) ≤ 512) ⌝ }
 {
-    let n = wide(rules);
-    let w = words_for(n);
+    let n = rule_count(rules);
+    let w = row_words(n);
     let k = table_words(n, costs.len());
     let mut empty = [0; 16];
     let mut first = [0; 8192];

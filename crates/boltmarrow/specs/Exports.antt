@@ -16,7 +16,11 @@ use Rattle.costs.specs.Query.{costIs}
 use Rattle.costs.specs.declared.Cost.{Cost}
 use Rattle.sentences.specs.Query.{lengthIs}
 use Rattle.sentences.specs.declared.Length.{Length}
+use Rattle.blocks.specs.Reading.{readingIs}
+use Rattle.blocks.specs.declared.Counts.{Counts as Sizes}
+use Rattle.blocks.specs.declared.Reading.{Reading}
 use Rattle.boltmarrow.specs.declared.Answer.{Answer}
+use Rattle.boltmarrow.specs.declared.Counts.{Counts}
 use Rattle.boltmarrow.specs.declared.Stretch.{Stretch}
 
 abbrev pub answeredWith : ℕ → Answer
@@ -61,7 +65,7 @@ abbrev pub lengthAnswer : Length → Answer
 lengthAnswer l = answerOf (lengthIs l)
 
 -- an answer that the library call's promise allows, as the struct
-pub record Says {A : Type 0} (Promise : A → Type 0) (shows : A → Answer) (x : Answer) : Type 0 where
+pub record Says {A B : Type 0} (Promise : A → Type 0) (shows : A → B) (x : B) : Type 0 where
   pub said : A
   pub promise : Promise said
   pub shown : x ≡ shows said
@@ -78,3 +82,11 @@ stretchAt from (refused n) = record { refusal = n; from = 0; len = 0 }
 
 abbrev pub stretchOf : Flat → ℕ → Stretch
 stretchOf g p = stretchAt (at (g .starts) p) (productionOf g p)
+
+-- the counts that were read; all 0 beside a refusal
+abbrev pub countsOf : Outcome Sizes → Counts
+countsOf (answers c) = record { refusal = 0; rules = c .rules; tokens = c .tokens; prods = c .prods; symbols = c .symbols }
+countsOf (refused n) = record { refusal = n; rules = 0; tokens = 0; prods = 0; symbols = 0 }
+
+abbrev pub countsAnswer : Reading → Counts
+countsAnswer r = countsOf (readingIs r)

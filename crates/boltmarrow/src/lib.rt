@@ -1,4 +1,5 @@
 // The exported calls, for C and for Rust: each is a library call whose answer is a struct.
+use blocks::Reading;
 use costs::Cost;
 use grammar::Checked;
 use grammar::PIdx;
@@ -21,7 +22,8 @@ ghost use Rattle.costs.specs.Calls.{ClearProductive, VisitProductive, FillProdu
 ghost use Rattle.costs.specs.Query.{MinSentenceCost};
 ghost use Rattle.follows.specs.Calls.{Clear as FollowClear, Visit as FollowVisit, Fill as FollowFill};
 ghost use Rattle.sentences.specs.Query.{MinSentence};
-ghost use Rattle.boltmarrow.specs.Exports.{checkedAnswer, askedAnswer, visitedAnswer, filledAnswer, costAnswer, lengthAnswer, refusalOf, stretchOf, Says};
+ghost use Rattle.blocks.specs.Reading.{lists, Read};
+ghost use Rattle.boltmarrow.specs.Exports.{checkedAnswer, askedAnswer, visitedAnswer, filledAnswer, costAnswer, lengthAnswer, refusalOf, stretchOf, countsAnswer, Says};
 
 // What an exported call answers: `refusal` is 0 where it answered, else document 01's number; `value` is
 // 0 for done, 1 or 0 for yes or no and for changed or same, else the number; 0 beside a refusal.
@@ -37,6 +39,16 @@ pub struct Stretch {
     pub refusal: u32,
     pub from: u32,
     pub len: u32,
+}
+
+// The counts of a grammar that was read from a file; all 0 beside a refusal.
+#[repr(C)]
+pub struct Counts {
+    pub refusal: u32,
+    pub rules: u32,
+    pub tokens: u32,
+    pub prods: u32,
+    pub symbols: u32,
 }
 
 // The number of a refusal of `production_len`.
@@ -143,6 +155,27 @@ fn measured(l: Length) -> Answer
         Length::Refused(n) => Answer {
             refusal: n as u32,
             value: 0,
+        },
+    }
+}
+
+fn counts(r: Reading) -> Counts
+    ensures { λ x. ⌜ x ≡ countsAnswer r ⌝ }
+{
+    match r {
+        Reading::Counts(c) => Counts {
+            refusal: 0,
+            rules: c.rules as u32,
+            tokens: c.tokens as u32,
+            prods: c.prods as u32,
+            symbols: c.symbols as u32,
+        },
+        Reading::Refused(n) => Counts {
+            refusal: n as u32,
+            rules: 0,
+            tokens: 0,
+            prods: 0,
+            symbols: 0,
         },
     }
 }
@@ -532,4 +565,19 @@ pub extern "C" fn boltmarrow_min_sentence(
         lengths,
         out,
     ))
+}
+
+// Reads a block file into lists of 4096, 4097, 16384 and 512; R, T, P and N. Refusals 7, 20, 21, 22, 1, 23, and
+// once the lists' fronts are filled 2 to 6.
+#[no_mangle]
+pub extern "C" fn boltmarrow_read_blocks(
+    file: &[u8],
+    owners: &mut [u16],
+    starts: &mut [u16],
+    symbols: &mut [u16],
+    costs: &mut [u8],
+) -> Counts
+    ensures { λ r. ⌜ Says (λ a. Read (now (file .entry)) (lists (now (owners .entry)) (now (starts .entry)) (now (symbols .entry)) (now (costs .entry))) a (lists (now (owners .exit)) (now (starts .exit)) (now (symbols .exit)) (now (costs .exit)))) countsAnswer r ⌝ }
+{
+    counts(blocks::read(file, owners, starts, symbols, costs))
 }

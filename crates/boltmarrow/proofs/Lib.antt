@@ -1,1 +1,2 @@
 pub mod Produced
+pub mod Determined

@@ -159,7 +159,7 @@ fn measured(l: Length) -> Answer
     }
 }
 
-fn counts(r: Reading) -> Counts
+fn read_counts(r: Reading) -> Counts
     ensures { λ x. ⌜ x ≡ countsAnswer r ⌝ }
 {
     match r {
@@ -579,5 +579,5 @@ pub extern "C" fn boltmarrow_read_blocks(
 ) -> Counts
     ensures { λ r. ⌜ Says (λ a. Read (now (file .entry)) (lists (now (owners .entry)) (now (starts .entry)) (now (symbols .entry)) (now (costs .entry))) a (lists (now (owners .exit)) (now (starts .exit)) (now (symbols .exit)) (now (costs .exit)))) countsAnswer r ⌝ }
 {
-    counts(blocks::read(file, owners, starts, symbols, costs))
+    read_counts(blocks::read(file, owners, starts, symbols, costs))
 }

@@ -137,8 +137,8 @@ fn priced(c: Cost) -> Answer
             refusal: 0,
             value: n,
         },
-        Cost::Refused(n) => Answer {
-            refusal: n as u32,
+        Cost::Refused(number) => Answer {
+            refusal: number as u32,
             value: 0,
         },
     }

@@ -1,0 +1,83 @@
+-- A refusal is told apart from any answer: an exported call's refusal is 0 exactly where the library call answered.
+use mathlib.Core.Bool.{Bool, true, false}
+use mathlib.Core.List.{List, [], _∷_}
+use mathlib.Core.Logic.{_⊎_, inl, inr}
+use mathlib.Core.Path.{_≡_, refl, sym, ap, _∙_, subst}
+use Prim.Native.Nat.{ℕ, suc, _≤_}
+use native.Mathlib.Omega.{arith}
+use Rattle.grammar.specs.Flat.{Flat}
+use Rattle.grammar.specs.Outcome.{Outcome, answers, refused, unless, lowest}
+use Rattle.grammar.specs.Production.{checkOf, productionOf}
+use Rattle.grammar.specs.Refusals.{dues, unlessDue}
+use Rattle.tables.specs.Call.{Call, Visits, Leaves}
+use Rattle.paths.specs.Calls.{Answers}
+use Rattle.costs.specs.Query.{Work, Priced}
+use Rattle.costs.proofs.Exactly.{kinds}
+use Rattle.sentences.specs.Query.{Lends, Sentenced}
+use Rattle.sentences.proofs.Exactly.{Fate, none, dear, circular, long, is, fate, said, says-said}
+use Rattle.blocks.specs.Reading.{Lists, Reads}
+use Rattle.boltmarrow.specs.Exports.{answerOf}
+
+-- a refusal's number is 1 or more
+abbrev pub Numbered : {A : Type 0} → Outcome A → Type 0
+Numbered (answers x) = Unit {0}
+Numbered (refused n) = 1 ≤ n
+
+module _ {A : Type 0} where
+  pub unless-numbered : (b : Bool) (n : ℕ) (x : Outcome A) → 1 ≤ n → Numbered x → Numbered (unless b n x)
+  unless-numbered true n x l h = l
+  unless-numbered false n x l h = h
+
+  lowest-numbered : (ds : List Bool) (n : ℕ) (x : Outcome A) → 1 ≤ n → Numbered x → Numbered (lowest n ds x)
+  lowest-numbered [] n x l h = h
+  lowest-numbered (d ∷ ds) n x l h = unless-numbered d n (lowest (suc n) ds x) l (lowest-numbered ds (suc n) x (omega arith) h)
+
+  pub due-numbered : (g : Flat) (x : Outcome A) → Numbered x → Numbered (unlessDue g x)
+  unfolding unlessDue
+  due-numbered g x h = lowest-numbered (dues g) 1 x (omega arith) h
+
+  answered : {s : Outcome A} (x : A) → s ≡ answers x → Numbered s
+  answered x e = subst Numbered (sym e) tt
+
+  refusing : {s : Outcome A} (n : ℕ) → s ≡ refused n → 1 ≤ n → Numbered s
+  refusing n e l = subst Numbered (sym e) l
+
+-- a call gives what is due, or what it does
+pub call-numbered : {A M : Type 0} {Done : Outcome A → M → Type 0} {before : M} {s : Outcome A} {after : M} → (due : Outcome (Unit {0})) → Numbered due → (Done s after → Numbered s) → Call due Done before s after → Numbered s
+call-numbered (answers tt) h k x = k (x .does refl)
+call-numbered (refused n) h k x = refusing n (x .refuses n refl) h
+
+-- what each kind of call does
+pub leaves-numbered : {M : Type 0} {Left : M → Type 0} {s : Outcome (Unit {0})} {after : M} → Leaves Left s after → Numbered s
+leaves-numbered x = answered tt (x .done)
+
+pub visits-numbered : {M : Type 0} {Became : M → Type 0} {before after : M} {s : Outcome Bool} → Visits Became before s after → Numbered s
+visits-numbered x = answered (x .changed) (x .answer)
+
+pub path-numbered : {g : Flat} {a b : ℕ} {s : Outcome Bool} {u : Unit {0}} → Answers g a b s u → Numbered s
+path-numbered x = answered (x .answer) (x .told)
+
+pub priced-numbered : (g : Flat) (r : ℕ) {s : Outcome ℕ} {a : Work} → Priced g r s a → Numbered s
+priced-numbered g r x = elim (kinds g r x) [
+  | inl h ↦ refusing 12 (x .none h) (omega arith)
+  | inr (inl h) ↦ refusing 13 (x .dear (h .0) (h .1)) (omega arith)
+  | inr (inr h) ↦ answered (h .0) (x .is (h .0) (h .1) (h .2))
+]
+
+pub sentenced-numbered : (g : Flat) (r : ℕ) (out : List ℕ) {s : Outcome ℕ} {a : Lends} → Sentenced g r out s a → Numbered s
+sentenced-numbered g r out x = subst Numbered (sym (says-said (x .says) (fate g r out x))) (go (fate g r out x))
+  where
+    go : {c : ℕ → ℕ} (f : Fate g c r out) → Numbered (said f)
+    go (none h) = omega arith
+    go (dear h) = omega arith
+    go (circular n h) = omega arith
+    go (long w y h) = omega arith
+    go (is w y a b) = tt
+
+pub reads-numbered : {file : List ℕ} {before after : Lists} {s : Outcome _} → Reads file before s after → Numbered s
+reads-numbered x = subst Numbered (sym (x .answer)) (due-numbered _ _ tt)
+
+-- so refusal 0 is an answer, and the value is its number
+pub told : (o : Outcome ℕ) → Numbered o → answerOf o .refusal ≡ 0 → o ≡ answers (answerOf o .value)
+told (answers n) h e = refl
+told (refused n) h e = absurd (omega (arith, e))

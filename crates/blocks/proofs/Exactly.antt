@@ -24,7 +24,8 @@ use Rattle.blocks.specs.Reading.{Lists, filled, readDue, Reads}
 use Rattle.blocks.specs.Conditions.{Long, Whole, Summed, Placed, Each, Some, Limited, Exact, Readable}
 use Rattle.blocks.proofs.Answering.{length-numbers, length-bytes}
 use Rattle.blocks.proofs.Conditions.{long-if, if-long, whole-if, if-whole, summed-if, if-summed, unsummed-if, placed-if, if-placed, misplaced-if, limited-if, if-limited, exact-if, if-exact}
-use Rattle.blocks.proofs.Order.{not-both, numbers-same, Test, test, never, first, pass, passes}
+use Rattle.grammar.proofs.Outcomes.{not-both, refused-one}
+use Rattle.blocks.proofs.Order.{Test, test, never, first, pass, passes}
 
 then : {A B D : Type 0} → A ↔ B → B ↔ D → A ↔ D
 then p q = (λ a. q .0 (p .0 a), λ d. p .1 (q .1 d))
@@ -48,7 +49,7 @@ module _ {A : Type 0} (g : Flat) (x : A) where
     where
       go : (o : Outcome (Unit {0})) → checkOf g ≡ o → checkOf g ≡ refused n
       go (answers tt) q = absurd (not-both (sym (due-none g (answers x) (answers-none g q)) ∙ e))
-      go (refused m) q = let d = given-due g m q in q ∙ ap refused (numbers-same (sym (due-given g (answers x) m (d .0) (d .1)) ∙ e))
+      go (refused m) q = let d = given-due g m q in q ∙ ap refused (refused-one (sym (due-given g (answers x) m (d .0) (d .1)) ∙ e))
 
   filled-answers : (y : A) → unlessDue g (answers x) ≡ answers y → (checkOf g ≡ answers tt) × (x ≡ y)
   filled-answers y e = go (checkOf g) refl
@@ -207,7 +208,7 @@ module _ (file : List ℕ) (m : Lists) {said : Outcome Counts} {after : Lists} (
       only e = go (readDue file m) refl
         where
           go : (o : Outcome (Unit {0})) → readDue file m ≡ o → readDue file m ≡ refused n
-          go (refused k) q = q ∙ ap refused (numbers-same (sym (x .refuses k q) ∙ e))
+          go (refused k) q = q ∙ ap refused (refused-one (sym (x .refuses k q) ∙ e))
           go (answers tt) q =
               let r = due-none-own file m .0 q in
               let d = given-due (g file m) n (filled-refused (g file m) (countsOf file) n (sym (done r .answer) ∙ e)) in
@@ -254,7 +255,7 @@ module _ (file : List ℕ) (m : Lists) {said : Outcome Counts} {after : Lists} (
       only e = go (readDue file m) refl
         where
           go : (o : Outcome (Unit {0})) → readDue file m ≡ o → Readable file m × Due (g file m) n × ((k : ℕ) → k < n → Due (g file m) k → ⊥)
-          go (refused k) q = absurd (other-six file m n lo hi (q ∙ ap refused (numbers-same (sym (x .refuses k q) ∙ e))))
+          go (refused k) q = absurd (other-six file m n lo hi (q ∙ ap refused (refused-one (sym (x .refuses k q) ∙ e))))
           go (answers tt) q =
               let r = due-none-own file m .0 q in
               let d = given-due (g file m) n (filled-refused (g file m) (countsOf file) n (sym (done r .answer) ∙ e)) in

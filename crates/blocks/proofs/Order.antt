@@ -8,12 +8,7 @@ use native.Mathlib.Omega.{arith}
 use lib.Dec.{eqb}
 use borrow.Author.Tests.{eqb-false}
 use Rattle.grammar.specs.Outcome.{Outcome, answers, refused, unless}
-
-pub not-both : {A : Type 0} {x : A} {n : ℕ} → answers x ≡ refused n → ⊥
-not-both e = let z : _≡_ {A = ℕ} 0 1 = cc in omega arith
-
-pub numbers-same : {A : Type 0} {m n : ℕ} → _≡_ {A = Outcome A} (refused m) (refused n) → m ≡ n
-numbers-same e = cc
+use Rattle.grammar.proofs.Outcomes.{not-both, refused-one}
 
 -- a test, and the number that it gives
 pub record Test : Type 0 where
@@ -38,7 +33,7 @@ Other n [] = Unit
 Other n (t ∷ ts) = (eqb (t .number) n ≡ false) × Other n ts
 
 past : (b : Bool) (k n : ℕ) (x : Outcome (Unit {0})) → eqb k n ≡ false → unless b k x ≡ refused n → (b ≡ false) × (x ≡ refused n)
-past true k n x h e = absurd (eqb-false k n h (numbers-same e))
+past true k n x h e = absurd (eqb-false k n h (refused-one e))
 past false k n x h e = (refl, e)
 
 on : (b : Bool) (k : ℕ) (x : Outcome (Unit {0})) → unless b k x ≡ answers tt → (b ≡ false) × (x ≡ answers tt)

@@ -17,15 +17,10 @@ use Rattle.grammar.specs.declared.Length.{Length}
 use Rattle.grammar.specs.declared.Length.the-variants.{Is, Refused}
 use Rattle.grammar.proofs.Forms.{prod-in, Placed, placed}
 use Rattle.grammar.proofs.Lowest.{after-well, after-refused}
+use Rattle.grammar.proofs.Outcomes.{not-both, refused-one, answers-one}
 use Rattle.grammar.proofs.Well.{well}
 use Rattle.boltmarrow.specs.declared.Stretch.{Stretch}
 use Rattle.boltmarrow.specs.Exports.{refusalOf, stretchAt, stretchOf}
-
-not-both : {A : Type 0} {x : A} {n : ℕ} → answers x ≡ refused n → ⊥
-not-both e = let z : _≡_ {A = ℕ} 0 1 = cc in omega arith
-
-same : {m n : ℕ} → _≡_ {A = Outcome ℕ} (answers m) (answers n) → m ≡ n
-same e = cc
 
 -- a length was answered: the grammar is well-formed and the number is a production's
 pub record Found (g : Flat) (p n : ℕ) : Type 0 where
@@ -56,7 +51,7 @@ found g p n e = go (checkOf g) refl
           well-formed = well g k;
           isProd = leb-false (length (g .owners)) p q;
           is = inside q;
-          long = same (e ∙ ap lengthOf (inside q));
+          long = answers-one (e ∙ ap lengthOf (inside q));
         }
 
 module _ (rules : ℕ) (owners starts symbols costs : List ℕ) (p : ℕ) (l : Length) (el : lengthIs l ≡ lengthOf (productionOf (flat rules owners starts symbols costs) p)) where
@@ -78,9 +73,6 @@ module _ (rules : ℕ) (owners starts symbols costs : List ℕ) (p : ℕ) (l : L
   pub stretch-refused : (m x : ℕ) → l ≡ Refused m → x ≡ refusalOf (lengthIs l) → record { refusal = x; from = 0; len = 0 } ≡ stretchOf (flat rules owners starts symbols costs) p
   stretch-refused m x e k = go (productionOf (flat rules owners starts symbols costs) p) (ap lengthIs (sym e) ∙ el)
     where
-      number : {i j : ℕ} → _≡_ {A = Outcome ℕ} (refused i) (refused j) → i ≡ j
-      number q = cc
-
       go : (o : Outcome (List ℕ)) → refused m ≡ lengthOf o → record { refusal = x; from = 0; len = 0 } ≡ stretchAt (at starts p) o
       go (answers xs) q = absurd (not-both (sym q))
-      go (refused j) q = rw (k, e, number q)
+      go (refused j) q = rw (k, e, refused-one q)

@@ -9,6 +9,7 @@ use native.Mathlib.Omega.{arith}
 use Rattle.theory.specs.Definitions.{Productive, Sentence, costOf, Cost}
 use Rattle.grammar.specs.Flat.{Flat, denoted, price}
 use Rattle.grammar.specs.Outcome.{Outcome, answers, refused}
+use Rattle.grammar.proofs.Outcomes.{not-both, refused-one}
 use Rattle.costs.specs.Lent.{rowOf, costsOf}
 use Rattle.costs.specs.Query.{Work, Priced}
 
@@ -32,12 +33,6 @@ kinds g r {s} {a} x = go (rowOf (g .rules) (a .productive) r) refl
         ]
     go false e = inl (λ k. true≢false (sym (x .productive .exact r .0 k) ∙ e))
 
-answered : {m n : ℕ} → _≡_ {A = Outcome ℕ} (answers m) (refused n) → ⊥
-answered e = let z : _≡_ {A = ℕ} 0 1 = cc in omega arith
-
-numbers : {m n : ℕ} → _≡_ {A = Outcome ℕ} (refused m) (refused n) → m ≡ n
-numbers e = cc
-
 module _ (g : Flat) (r : ℕ) {s : Outcome ℕ} {a : Work} (x : Priced g r s a) where
   -- 12 exactly where the rule has no sentence
   pub twelve : (s ≡ refused 12) ↔ (Productive (denoted g) r → ⊥)
@@ -46,8 +41,8 @@ module _ (g : Flat) (r : ℕ) {s : Outcome ℕ} {a : Work} (x : Priced g r s a) 
       only : s ≡ refused 12 → Productive (denoted g) r → ⊥
       only e = elim (kinds g r x) [
         | inl h ↦ h
-        | inr (inl h) ↦ absurd (omega (arith, numbers (sym (x .dear (h .0) (h .1)) ∙ e)))
-        | inr (inr h) ↦ absurd (answered (sym (x .is (h .0) (h .1) (h .2)) ∙ e))
+        | inr (inl h) ↦ absurd (omega (arith, refused-one (sym (x .dear (h .0) (h .1)) ∙ e)))
+        | inr (inr h) ↦ absurd (not-both (sym (x .is (h .0) (h .1) (h .2)) ∙ e))
       ]
 
   -- 13 exactly where it has one and none costs 65535 or less
@@ -56,7 +51,7 @@ module _ (g : Flat) (r : ℕ) {s : Outcome ℕ} {a : Work} (x : Priced g r s a) 
     where
       only : s ≡ refused 13 → Dear g r
       only e = elim (kinds g r x) [
-        | inl h ↦ absurd (omega (arith, numbers (sym (x .none h) ∙ e)))
+        | inl h ↦ absurd (omega (arith, refused-one (sym (x .none h) ∙ e)))
         | inr (inl h) ↦ h
-        | inr (inr h) ↦ absurd (answered (sym (x .is (h .0) (h .1) (h .2)) ∙ e))
+        | inr (inr h) ↦ absurd (not-both (sym (x .is (h .0) (h .1) (h .2)) ∙ e))
       ]

@@ -12,6 +12,7 @@ use Rattle.grammar.specs.Refusals.{sizesOut, startsWrong, ownerOut, rule
 use Rattle.grammar.specs.Production.{checkedIs, checkOf}
 use Rattle.grammar.specs.declared.Checked.{Checked}
 use Rattle.grammar.specs.declared.Checked.the-variants.{Well, Refused}
+use Rattle.grammar.proofs.Outcomes.{not-both}
 
 -- what `check` returns, from what its tests found on its way
 module _ {A : Type 0} (g : Flat) (x : Outcome A) where
@@ -47,9 +48,6 @@ module _ {A : Type 0} (g : Flat) (x : Outcome A) where
             pub gives-none : startWrong (g .owners) (g .starts) (g .symbols) ≡ false → x ≡ unlessDue g x
             unfolding unlessDue
             gives-none h = rw (a, b, d, e, f, h)
-
-not-both : {A : Type 0} {x : A} {n : ℕ} → answers x ≡ refused n → ⊥
-not-both e = let z : _≡_ {A = ℕ} 0 1 = cc in omega arith
 
 -- place k of the list is the first that is due
 pub record FirstDue (ds : List Bool) (k : ℕ) : Type 0 where

@@ -16,6 +16,7 @@ use Rattle.theory.proofs.Lengths.{length-grounded, grounded-length}
 use Rattle.theory.proofs.Sentences.{grounded-expands, sentence-of}
 use Rattle.grammar.specs.Flat.{Flat, denoted, price}
 use Rattle.grammar.specs.Outcome.{Outcome, answers, refused}
+use Rattle.grammar.proofs.Outcomes.{not-both, refused-one, answers-one}
 use Rattle.costs.specs.Lent.{rowOf, costsOf}
 use Rattle.costs.proofs.Exactly.{Dear, Least}
 use Rattle.sentences.specs.Lent.{lengthsOf}
@@ -86,12 +87,6 @@ module _ {g : Flat} {c : Costs} {r : ℕ} {out : List ℕ} {s : Outcome ℕ} {to
   says-left (long w y h) = x .long w y h .kept
   says-left (is w y a b) = x .is w y a b .tokens
 
-answered : {m n : ℕ} → _≡_ {A = Outcome ℕ} (answers m) (refused n) → ⊥
-answered e = let z : _≡_ {A = ℕ} 0 1 = cc in omega arith
-
-numbers : {m n : ℕ} → _≡_ {A = Outcome ℕ} (refused m) (refused n) → m ≡ n
-numbers e = cc
-
 module _ (g : Flat) (r : ℕ) (out : List ℕ) {s : Outcome ℕ} {a : Lends} (x : Sentenced g r out s a) where
   -- 12 exactly where the rule has no sentence
   pub twelve : (s ≡ refused 12) ↔ (Productive (denoted g) r → ⊥)
@@ -99,43 +94,43 @@ module _ (g : Flat) (r : ℕ) (out : List ℕ) {s : Outcome ℕ} {a : Lends} (x 
     where
       go : (f : Fate g (costsOf (a .cost)) r out) → said f ≡ refused 12 → Productive (denoted g) r → ⊥
       go (none h) e = h
-      go (dear h) e = absurd (omega (arith, numbers e))
-      go (circular n h) e = absurd (omega (arith, numbers e))
-      go (long w y h) e = absurd (omega (arith, numbers e))
-      go (is w y k l) e = absurd (answered e)
+      go (dear h) e = absurd (omega (arith, refused-one e))
+      go (circular n h) e = absurd (omega (arith, refused-one e))
+      go (long w y h) e = absurd (omega (arith, refused-one e))
+      go (is w y k l) e = absurd (not-both e)
 
   -- 13 exactly where it has one and none costs 65535 or less
   pub thirteen : (s ≡ refused 13) ↔ Dear g r
   thirteen = (λ e. go (fate g r out x) (sym (says-said (x .says) (fate g r out x)) ∙ e), λ h. x .says .dear (h .0) (h .1) .number)
     where
       go : (f : Fate g (costsOf (a .cost)) r out) → said f ≡ refused 13 → Dear g r
-      go (none h) e = absurd (omega (arith, numbers e))
+      go (none h) e = absurd (omega (arith, refused-one e))
       go (dear h) e = h
-      go (circular n h) e = absurd (omega (arith, numbers e))
-      go (long w y h) e = absurd (omega (arith, numbers e))
-      go (is w y k l) e = absurd (answered e)
+      go (circular n h) e = absurd (omega (arith, refused-one e))
+      go (long w y h) e = absurd (omega (arith, refused-one e))
+      go (is w y k l) e = absurd (not-both e)
 
   -- 14 exactly where it has a cost and is not grounded in the least reading
   pub fourteen : (s ≡ refused 14) ↔ (Least g r × (Grounded (denoted g) (price g) (costsOf (a .cost)) (rul r ∷ []) → ⊥))
   fourteen = (λ e. go (fate g r out x) (sym (says-said (x .says) (fate g r out x)) ∙ e), λ h. x .says .circular (h .0 .0) (h .0 .1) (h .0 .2) (h .1) .number)
     where
       go : (f : Fate g (costsOf (a .cost)) r out) → said f ≡ refused 14 → Least g r × (Grounded (denoted g) (price g) (costsOf (a .cost)) (rul r ∷ []) → ⊥)
-      go (none h) e = absurd (omega (arith, numbers e))
-      go (dear h) e = absurd (omega (arith, numbers e))
+      go (none h) e = absurd (omega (arith, refused-one e))
+      go (dear h) e = absurd (omega (arith, refused-one e))
       go (circular n h) e = (n, h)
-      go (long w y h) e = absurd (omega (arith, numbers e))
-      go (is w y k l) e = absurd (answered e)
+      go (long w y h) e = absurd (omega (arith, refused-one e))
+      go (is w y k l) e = absurd (not-both e)
 
   -- 15 exactly where its sentence is longer than 65535 or than the room
   pub fifteen : (s ≡ refused 15) ↔ ((w : List ℕ) × Expands (denoted g) (price g) (costsOf (a .cost)) (rul r ∷ []) w × TooLong out w)
   fifteen = (λ e. go (fate g r out x) (sym (says-said (x .says) (fate g r out x)) ∙ e), λ h. x .says .long (h .0) (h .1) (h .2) .number)
     where
       go : (f : Fate g (costsOf (a .cost)) r out) → said f ≡ refused 15 → (w : List ℕ) × Expands (denoted g) (price g) (costsOf (a .cost)) (rul r ∷ []) w × TooLong out w
-      go (none h) e = absurd (omega (arith, numbers e))
-      go (dear h) e = absurd (omega (arith, numbers e))
-      go (circular n h) e = absurd (omega (arith, numbers e))
+      go (none h) e = absurd (omega (arith, refused-one e))
+      go (dear h) e = absurd (omega (arith, refused-one e))
+      go (circular n h) e = absurd (omega (arith, refused-one e))
       go (long w y h) e = (w, y, h)
-      go (is w y k l) e = absurd (answered e)
+      go (is w y k l) e = absurd (not-both e)
 
 -- an answer n: a sentence of the rule by derivation, n tokens long, that costs the rule's COST, at the front of the output
 pub record Cheapest (g : Flat) (c : Costs) (r n : ℕ) (out to : List ℕ) : Type 0 where
@@ -149,14 +144,11 @@ pub record Cheapest (g : Flat) (c : Costs) (r n : ℕ) (out to : List ℕ) : Typ
 pub cheapest : (g : Flat) (r : ℕ) (out : List ℕ) {n : ℕ} {a : Lends} → Sentenced g r out (answers n) a → Cheapest g (costsOf (a .cost)) r n out (a .out)
 cheapest g r out {n} {a} x = go (fate g r out x) (says-said (x .says) (fate g r out x)) (says-left (x .says) (fate g r out x))
   where
-    same : {i j : ℕ} → _≡_ {A = Outcome ℕ} (answers i) (answers j) → i ≡ j
-    same e = cc
-
     go : (f : Fate g (costsOf (a .cost)) r out) → answers n ≡ said f → a .out ≡ left f → Cheapest g (costsOf (a .cost)) r n out (a .out)
-    go (none h) e k = absurd (answered e)
-    go (dear h) e k = absurd (answered e)
-    go (circular i h) e k = absurd (answered e)
-    go (long w y h) e k = absurd (answered e)
+    go (none h) e k = absurd (not-both e)
+    go (dear h) e k = absurd (not-both e)
+    go (circular i h) e k = absurd (not-both e)
+    go (long w y h) e k = absurd (not-both e)
     go (is w y i l) e k =
         let d = sentence-of y in
-        record { w = w; expands = y; sentence = d .0; cost = rw (d .1) (x .cost .exact r); long = sym (same e); tokens = k }
+        record { w = w; expands = y; sentence = d .0; cost = rw (d .1) (x .cost .exact r); long = sym (answers-one e); tokens = k }

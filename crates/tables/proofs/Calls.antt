@@ -12,6 +12,7 @@ use Rattle.grammar.specs.Refusals.{unlessDue}
 use Rattle.grammar.specs.declared.Checked.{Checked}
 use Rattle.grammar.specs.declared.Checked.the-variants.{Refused as Not}
 use Rattle.grammar.proofs.Lowest.{after-refused}
+use Rattle.grammar.proofs.Outcomes.{not-both, refused-one}
 use Rattle.tables.specs.declared.Asked.{Asked}
 use Rattle.tables.specs.declared.Asked.the-variants.{Yes, No, Refused as NotAsked}
 use Rattle.tables.specs.declared.Visited.{Visited}
@@ -20,13 +21,6 @@ use Rattle.tables.specs.declared.Filled.{Filled}
 use Rattle.tables.specs.declared.Filled.the-variants.{Done, Refused as NotFilled}
 use Rattle.tables.specs.Answers.{askedIs, visitedIs, filledIs, askedOf, visitedOf}
 use Rattle.tables.specs.Call.{Call, Stepped, Visits, Leaves}
-
-module _ {A : Type 0} where
-  not-both : {x : A} {n : ℕ} → answers x ≡ refused n → ⊥
-  not-both e = let z : _≡_ {A = ℕ} 0 1 = cc in omega arith
-
-  refused-one : {m n : ℕ} → _≡_ {A = Outcome A} (refused m) (refused n) → m ≡ n
-  refused-one e = cc
 
 module _ {A M : Type 0} {due : Outcome (Unit {0})} {Does : Outcome A → M → Type 0} {before : M} where
   pub call-refused : (n : ℕ) → due ≡ refused n → Call due Does before (refused n) before

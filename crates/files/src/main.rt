@@ -63,7 +63,7 @@ const G1: [u8; 54] = [
     1,
 ];
 
-// What the lists hold before a call; no file here has these numbers.
+// What the lists hold before a call; no file here has these numbers, nor a cost of 99.
 const OLD: u16 = 9999;
 
 const OLD_COST: u8 = 99;
@@ -192,7 +192,8 @@ fn say_lists(
     say(b"\n");
 }
 
-// The call with the first `len` bytes of the file, and with the fronts of four lists, each of which has a place more than the reader takes.
+// The call with the first `len` bytes of the file, and with the fronts of four lists, each of which has a place more
+// than the reader takes.
 fn run(name: &[u8], file: &[u8], len: usize, o: usize, s: usize, n: usize, t: usize)
     requires { ⌜ (len ≤ length (now file)) × ((o ≤ 4097) × ((s ≤ 4098) × ((n ≤ 16385) × (t ≤ 513)))) ⌝ }
 {
@@ -298,15 +299,6 @@ fn put_grammar(file: &mut [u8], limits: bool) {
     put_list(file, 3, 49162, 1, 512);
 }
 
-// Bytes of the file, given as pairs of a place and a byte.
-fn edit(file: &mut [u8], pairs: &[usize]) {
-    let mut i: usize = 0;
-    while i + 1 < pairs.len() {
-        put(file, pairs[i], pairs[i + 1]);
-        i += 2;
-    }
-}
-
 // The sum of a block's first 510 bytes; 0 if the file ends before.
 fn block_sum(file: &[u8], b: usize) -> usize
     requires { ⌜ b ≤ 99 ⌝ }
@@ -346,29 +338,41 @@ fn put_ends(file: &mut [u8], blocks: usize, check: bool)
     }
 }
 
-// A file of G1 or of the grammar at the limits, with bytes changed before the checks are put in, and after.
-fn make(file: &mut [u8], blocks: usize, limits: bool, before: &[usize], after: &[usize])
-    requires { ⌜ blocks ≤ 99 ⌝ }
+// A file of G1 or of the grammar at the limits with two numbers changed. They are put in before the checks and after, so
+// that a check changed stays so, and the checks are right for any other change.
+fn make(file: &mut [u8], blocks: usize, limits: bool, at: usize, x: usize, at2: usize, y: usize)
+    requires { ⌜ (blocks ≤ 99) × ((at ≤ 100000) × (at2 ≤ 100000)) ⌝ }
 {
     put_grammar(file, limits);
     put_ends(file, blocks, false);
-    edit(file, before);
+    put_number(file, at, x);
+    put_number(file, at2, y);
     put_ends(file, blocks, true);
-    edit(file, after);
+    put_number(file, at, x);
+    put_number(file, at2, y);
 }
 
-// Such a file of `len` bytes, read with lists of the limits' lengths.
-fn case(name: &[u8], limits: bool, len: usize, before: &[usize], after: &[usize])
-    requires { ⌜ len ≤ 50688 ⌝ }
+// The first `len` bytes of such a file, read with lists of the limits' lengths.
+fn case(name: &[u8], limits: bool, len: usize, at: usize, x: usize, at2: usize, y: usize)
+    requires { ⌜ (len ≤ 50688) × ((at ≤ 100000) × (at2 ≤ 100000)) ⌝ }
 {
     let mut file: [u8; 50688] = [0; 50688];
-    make(&mut file, len / 512, limits, before, after);
+    make(&mut file, len / 512, limits, at, x, at2, y);
     run(name, &file, len, 4096, 4097, 16384, 512);
 }
 
-// G1's block with bytes changed and the right check.
-fn g1(name: &[u8], before: &[usize]) {
-    case(name, false, 512, before, &[]);
+// With nothing changed: block 0 has number 0.
+fn plain(name: &[u8], limits: bool, len: usize)
+    requires { ⌜ len ≤ 50688 ⌝ }
+{
+    case(name, limits, len, 0, 0, 0, 0);
+}
+
+// G1's block with one number changed.
+fn g1(name: &[u8], at: usize, x: usize)
+    requires { ⌜ at ≤ 100000 ⌝ }
+{
+    case(name, false, 512, at, x, at, x);
 }
 
 // G1's block, or none of its bytes, read with lists of other lengths.
@@ -376,63 +380,65 @@ fn lists(name: &[u8], len: usize, o: usize, s: usize, n: usize, t: usize)
     requires { ⌜ (len ≤ 50688) × ((o ≤ 4097) × ((s ≤ 4098) × ((n ≤ 16385) × (t ≤ 513)))) ⌝ }
 {
     let mut file: [u8; 50688] = [0; 50688];
-    make(&mut file, 1, false, &[], &[]);
+    make(&mut file, 1, false, 0, 0, 0, 0);
     run(name, &file, len, o, s, n, t);
 }
 
 // 21, 22 and 23 alone, then 21, 22, 1 and 23 in pairs.
 fn faults() {
-    case(b"check over by one", false, 512, &[], &[510, 204]);
-    case(b"check under by one", false, 512, &[], &[510, 202]);
-    case(b"check's high byte", false, 512, &[], &[511, 0]);
-    g1(b"number 1", &[0, 1]);
-    g1(b"number 256", &[1, 1]);
-    case(b"block 1 with number 0", false, 1024, &[512, 0], &[]);
-    g1(b"first spare byte", &[54, 1]);
-    g1(b"last spare byte", &[509, 1]);
+    g1(b"check over by one", 510, 460);
+    g1(b"check under by one", 510, 458);
+    g1(b"check's high byte", 510, 203);
+    g1(b"number 1", 0, 1);
+    g1(b"number 256", 0, 256);
+    case(b"block 1 with number 0", false, 1024, 512, 0, 512, 0);
+    g1(b"first spare byte", 54, 1);
+    g1(b"last spare byte", 508, 256);
     case(
         b"block 0 with number 1, check of block 1",
         false,
         1024,
-        &[0, 1],
-        &[1022, 2],
+        0,
+        1,
+        1022,
+        2,
     );
-    case(b"check, number 1", false, 512, &[0, 1], &[510, 203]);
-    case(b"check, R 1", false, 512, &[2, 1], &[510, 203]);
-    case(b"check, spare byte", false, 512, &[54, 1], &[510, 203]);
-    g1(b"number 1, R 1", &[0, 1, 2, 1]);
-    g1(b"number 1, spare byte", &[0, 1, 54, 1]);
-    g1(b"R 513, spare byte", &[2, 1, 3, 2, 54, 1]);
+    case(b"check, number 1", false, 512, 0, 1, 510, 459);
+    case(b"check, R 1", false, 512, 2, 1, 510, 459);
+    case(b"check, spare byte", false, 512, 54, 1, 510, 459);
+    case(b"number 1, R 1", false, 512, 0, 1, 2, 1);
+    case(b"number 1, spare byte", false, 512, 0, 1, 54, 1);
+    case(b"R 513, spare byte", false, 512, 2, 513, 54, 1);
 }
 
 // R, T, P and N at the limits and beyond; then 2 to 6.
 fn grammars() {
-    g1(b"R 1", &[2, 1]);
-    g1(b"R 2", &[2, 2]);
-    g1(b"R 512", &[2, 0, 3, 2]);
-    g1(b"R 513", &[2, 1, 3, 2]);
-    g1(b"T 0", &[4, 0]);
-    g1(b"T 512", &[4, 0, 5, 2]);
-    case(b"T 512 in 2 blocks", false, 1024, &[4, 0, 5, 2], &[]);
-    g1(b"T 513", &[4, 1, 5, 2]);
-    g1(b"P 1", &[6, 1]);
-    g1(b"P 2", &[6, 2]);
-    g1(b"P 4096", &[6, 0, 7, 16]);
-    g1(b"P 4097", &[6, 1, 7, 16]);
-    g1(b"N 0", &[8, 0]);
-    g1(b"N 1", &[8, 1]);
-    g1(b"N 16384", &[8, 0, 9, 64]);
-    g1(b"N 16385", &[8, 1, 9, 64]);
-    g1(b"first start 1", &[22, 1]);
-    g1(b"falling start", &[24, 5]);
-    g1(b"last start 6", &[34, 6]);
-    g1(b"owner R", &[10, 4]);
-    g1(b"rule 1 unowned", &[10, 2]);
-    g1(b"token T-1", &[38, 3]);
-    g1(b"rule R", &[36, 4]);
-    g1(b"rule 0 owning two", &[14, 0]);
-    g1(b"rule 0 a token", &[48, 0, 49, 0]);
-    g1(b"rule 0 held", &[36, 0]);
+    g1(b"R 1", 2, 1);
+    g1(b"R 2", 2, 2);
+    g1(b"R 512", 2, 512);
+    g1(b"R 513", 2, 513);
+    g1(b"T 0", 4, 0);
+    g1(b"T 512", 4, 512);
+    case(b"T 512 in 2 blocks", false, 1024, 4, 512, 4, 512);
+    g1(b"T 513", 4, 513);
+    g1(b"P 1", 6, 1);
+    g1(b"P 2", 6, 2);
+    g1(b"P 4096", 6, 4096);
+    g1(b"P 4097", 6, 4097);
+    g1(b"N 0", 8, 0);
+    g1(b"N 1", 8, 1);
+    g1(b"N 16384", 8, 16384);
+    g1(b"N 16385", 8, 16385);
+    g1(b"first start 1", 22, 1);
+    g1(b"falling start", 24, 5);
+    g1(b"last start 6", 34, 6);
+    g1(b"owner R", 10, 4);
+    g1(b"rule 1 unowned", 10, 2);
+    g1(b"token T-1", 38, 3);
+    g1(b"rule R", 36, 32772);
+    g1(b"rule 0 owning two", 14, 0);
+    g1(b"rule 0 a token", 48, 0);
+    g1(b"rule 0 held", 36, 32768);
 }
 
 // 7, also before 20.
@@ -451,24 +457,18 @@ fn lengths() {
 
 // G1, and files of other sizes; then all others.
 fn main() {
-    case(
-        b"G1, check bytes 203 1",
-        false,
-        512,
-        &[],
-        &[510, 203, 511, 1],
-    );
-    g1(b"G1, check computed here", &[]);
-    case(b"no byte", false, 0, &[], &[]);
-    case(b"1 byte", false, 1, &[], &[]);
-    case(b"511 bytes", false, 511, &[], &[]);
-    case(b"513 bytes", false, 513, &[], &[]);
-    case(b"98 blocks and a byte", true, 50177, &[], &[]);
-    case(b"98 blocks at the limits", true, 50176, &[], &[]);
-    case(b"97 blocks of them", true, 49664, &[], &[]);
-    case(b"them in 99 blocks", true, 50688, &[], &[]);
-    case(b"G1 in 2 blocks", false, 1024, &[], &[]);
-    case(b"G1 in 98 blocks", false, 50176, &[], &[]);
+    g1(b"G1, check bytes 203 1", 510, 459);
+    g1(b"G1, check computed here", 0, 0);
+    plain(b"no byte", false, 0);
+    plain(b"1 byte", false, 1);
+    plain(b"511 bytes", false, 511);
+    plain(b"513 bytes", false, 513);
+    plain(b"98 blocks and a byte", true, 50177);
+    plain(b"98 blocks at the limits", true, 50176);
+    plain(b"97 blocks of them", true, 49664);
+    plain(b"them in 99 blocks", true, 50688);
+    plain(b"G1 in 2 blocks", false, 1024);
+    plain(b"G1 in 98 blocks", false, 50176);
     faults();
     grammars();
     lengths();

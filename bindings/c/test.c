@@ -585,18 +585,25 @@ static void reader(void) {
     expect("the largest file", read_refusal(), 0);
 }
 
-/* A well-formed grammar, small or with rows of several words. */
+/* A well-formed grammar, small or with rows of several words. In a layered one a rule holds only the next
+ * three rules, so that sentences grow long and dear. */
 static void random_grammar(void) {
     uint16_t rules = (uint16_t)(2 + below(below(4) ? 7 : 69));
     size_t tokens = 1 + below(below(4) ? 6 : 70), extra = below(rules + 4);
+    int layered = below(3) == 0;
     begin(rules, tokens, 0);
     for (size_t i = 0; i < tokens; i++) costs[i] = (uint8_t)(below(3) ? below(4) : below(256));
     for (size_t p = 0; p < rules + extra; p++) {
         uint16_t owner = (uint16_t)(p < rules ? (p + 1) % rules : 1 + below(rules - 1u));
-        size_t len = owner == 0 ? 1 : below(5);
+        uint16_t from = layered ? (uint16_t)(owner + 1) : 1;
+        size_t len = owner == 0 ? 1 : layered ? 1 + below(4) : below(5);
         for (size_t i = 0; i < len; i++) {
-            int rule = owner == 0 || tokens == 1 || below(2);
-            add((uint16_t)(rule ? R(1 + below(rules - 1u)) : below((uint32_t)tokens - 1)));
+            uint32_t rest = (uint32_t)rules - from, near = layered && rest > 3 ? 3 : rest;
+            int token = owner != 0 && tokens > 1 && (rest == 0 || below(layered ? 8 : 2) == 0);
+            if (token)
+                add((uint16_t)below((uint32_t)tokens - 1));
+            else if (rest)
+                add((uint16_t)R(from + below(near)));
         }
         end(owner);
     }
@@ -631,7 +638,7 @@ static void random_calls(int grammars) {
         for (int i = 0; i < 12; i++) {
             c.rule = (uint16_t)below(g.rules + 1u), c.to = (uint16_t)below(g.rules + 1u);
             c.token = (uint16_t)below((uint32_t)g.tokens + 1), c.prod = (uint16_t)below((uint32_t)g.prods + 1);
-            c.mode = (uint16_t)(below(8) ? 1 + below(2) : below(4)), c.out_len = below(60);
+            c.mode = (uint16_t)(below(8) ? 1 + below(2) : below(4)), c.out_len = below(below(8) ? 60 : 100000);
             size_t *len = &c.table_len[below(3)], right = *len;
             if (below(12) == 0) *len = right + below(3) - (right > 0);
             run(&c);

@@ -3,11 +3,12 @@
  * Document 01's own numbers stand here as literals besides. Prints one line; messages go to the error stream. */
 #include <stdio.h>
 #include <string.h>
+#include <sys/mman.h>
 
 #include "boltmarrow.h"
 #include "model.h"
 
-enum { WORDS = 1000000, GUARD = 64, PATTERN = 0xA5, SLOTS = 8 };
+enum { WORDS = 1000000, GUARD = 64, PATTERN = 0xA5, SLOTS = 8, FENCE = 65536 };
 
 static unsigned long calls, checks, wrong;
 
@@ -30,20 +31,32 @@ static uint32_t next(void) {
 
 static uint32_t below(uint32_t n) { return next() % n; }
 
-/* Lent lists: each slot has room for the longest list, a guard on both sides and a shift of up to seven elements. */
-static uint64_t rooms[SLOTS][(4 * WORDS + 2 * GUARD + 64) / 8];
+/* Lent lists: each slot has room for the longest list and ends in a fence, memory that may not be touched. A list
+ * stands either between two guards, shifted by up to seven elements, or with a guard before it and the fence behind,
+ * so that a read past its end is seen too. */
+static uint8_t rooms[SLOTS][4 * WORDS + 3 * FENCE];
 static struct {
-    uint8_t *at;
+    uint8_t *fence, *at;
     size_t bytes;
 } lent[SLOTS];
 
+static int build_fences(void) {
+    for (int i = 0; i < SLOTS; i++) {
+        uint8_t *last = rooms[i] + sizeof rooms[i] - FENCE;
+        lent[i].fence = last - (size_t)last % FENCE;
+        if (mprotect(lent[i].fence, FENCE, PROT_NONE)) return 0;
+    }
+    return 1;
+}
+
 static void *lend(int slot, const void *from, size_t count, size_t size) {
-    uint8_t *at = (uint8_t *)rooms[slot] + GUARD + size * below(8);
+    uint8_t *fence = lent[slot].fence, *low = fence - 4 * WORDS - FENCE / 2;
+    uint8_t *at = below(2) ? fence - count * size : low + GUARD + size * below(8);
     lent[slot].at = at;
     lent[slot].bytes = count * size;
     memset(at - GUARD, PATTERN, GUARD);
     if (count) memcpy(at, from, count * size);
-    memset(at + count * size, PATTERN, GUARD);
+    if (at + count * size != fence) memset(at + count * size, PATTERN, GUARD);
     return at;
 }
 
@@ -53,7 +66,7 @@ static void returned(const char *what, int slot, const void *want) {
     uint8_t *at = lent[slot].at;
     size_t bytes = lent[slot].bytes;
     expect(what, memcmp(at - GUARD, guard, GUARD) == 0, 1);
-    expect(what, memcmp(at + bytes, guard, GUARD) == 0, 1);
+    expect(what, at + bytes == lent[slot].fence || memcmp(at + bytes, guard, GUARD) == 0, 1);
     expect(what, bytes == 0 || memcmp(at, want, bytes) == 0, 1);
 }
 
@@ -655,6 +668,7 @@ static void random_calls(int grammars) {
 }
 
 int main(void) {
+    expect("fences", (uint64_t)build_fences(), 1);
     g1();
     g2_to_g6();
     lengths();

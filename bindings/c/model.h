@@ -1,5 +1,6 @@
-/* Document 01 once more in C, plain and slow, to compare the library with. It is written from that text and from no
- * crate. A call names an exported function and holds what it is lent; `model` makes the call on those lists. */
+/* Document 01 once more in C, plain and slow, to compare the library with. It is written from that text, with the
+ * readings of its open points in docs/DECISIONS.md, and from no crate. A call names an exported function and holds what
+ * it is lent; `model` makes the call on those lists. */
 #include <stddef.h>
 #include <stdint.h>
 #include <string.h>

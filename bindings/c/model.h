@@ -1,0 +1,435 @@
+/* Document 01 once more in C, plain and slow, to compare the library with. It is written from that text, with the
+ * readings of its open points in docs/DECISIONS.md, and from no crate. A call names an exported function and holds what
+ * it is lent; `model` makes the call on those lists. */
+#include <stddef.h>
+#include <stdint.h>
+#include <string.h>
+
+enum { RULE = 32768, MOST = 65535, NONE = 65536, UNGROUNDED = 65537 };
+
+typedef struct {
+    uint16_t rules;
+    const uint16_t *owners, *starts, *symbols;
+    const uint8_t *costs;
+    size_t prods, starts_len, symbols_len, tokens;
+} grammar;
+
+typedef enum {
+    CHECK,
+    PRODUCTION,
+    MARK,
+    RULE_MARK,
+    FIRST_CLEAR,
+    FIRST_VISIT,
+    FIRST_FILL,
+    HAS_PATH,
+    PRODUCTIVE_CLEAR,
+    PRODUCTIVE_VISIT,
+    PRODUCTIVE_FILL,
+    COST_CLEAR,
+    COST_VISIT,
+    COST_FILL,
+    MIN_SENTENCE_COST,
+    FOLLOW_CLEAR,
+    FOLLOW_VISIT,
+    FOLLOW_FILL,
+    MIN_SENTENCE,
+    OPS
+} op;
+
+/* The tables that a call is lent, in order: T a row of tokens a rule, E one row of rules, C a number a rule. */
+static const char *const tables_of[OPS] = {"",  "",  "T",  "E", "TE", "TE",  "TE",  "",   "E", "E",
+                                           "E", "C", "C",  "C", "EC", "T",   "TTE", "TTE", "ECC"};
+
+typedef struct {
+    op op;
+    grammar g;
+    uint16_t rule, token, prod, mode, to; /* those that the call takes */
+    uint32_t *table[3];
+    size_t table_len[3];
+    uint16_t *out;
+    size_t out_len;
+} call;
+
+/* What any call answers: the refusal, then the other fields of its struct. */
+typedef struct {
+    uint32_t refusal, field[4];
+} result;
+
+static result refused(uint32_t number) {
+    result r = {number, {0, 0, 0, 0}};
+    return r;
+}
+
+static result answered(uint32_t value) {
+    result r = {0, {value, 0, 0, 0}};
+    return r;
+}
+
+static int in_limits(size_t rules, size_t tokens, size_t prods, size_t symbols) {
+    return rules >= 2 && rules <= 512 && tokens >= 1 && tokens <= 512 && prods >= 2 && prods <= 4096 && symbols >= 1 &&
+           symbols <= 16384;
+}
+
+/* The lowest refusal due of 1 to 6, or 0. */
+static uint32_t check_of(const grammar *g) {
+    size_t of_start = 0, p, i, r;
+    if (!in_limits(g->rules, g->tokens, g->prods, g->symbols_len)) return 1;
+    if (g->starts_len != g->prods + 1 || g->starts[0] != 0 || g->starts[g->prods] != g->symbols_len) return 2;
+    for (p = 0; p < g->prods; p++)
+        if (g->starts[p] > g->starts[p + 1]) return 2;
+    for (p = 0; p < g->prods; p++)
+        if (g->owners[p] >= g->rules) return 3;
+    for (r = 0; r < g->rules; r++) {
+        for (p = 0; p < g->prods && g->owners[p] != r; p++)
+            ;
+        if (p == g->prods) return 4;
+    }
+    for (i = 0; i < g->symbols_len; i++) {
+        uint16_t s = g->symbols[i];
+        if (s < RULE ? s + 1u >= g->tokens : s - RULE >= g->rules) return 5;
+    }
+    for (p = 0; p < g->prods; p++)
+        if (g->owners[p] == 0) {
+            of_start++;
+            if (g->starts[p + 1] - g->starts[p] != 1 || g->symbols[g->starts[p]] < RULE) return 6;
+        }
+    if (of_start != 1) return 6;
+    for (i = 0; i < g->symbols_len; i++)
+        if (g->symbols[i] == RULE) return 6;
+    return 0;
+}
+
+static size_t width(const grammar *g) { return (g->tokens + 31) / 32; }
+
+static size_t length_of(char table, const grammar *g) {
+    return table == 'T' ? g->rules * width(g) : table == 'E' ? (g->rules + 31u) / 32 : g->rules;
+}
+
+static int marked(const uint32_t *row, size_t i) { return row[i / 32] >> i % 32 & 1; }
+
+/* Sets a mark; whether it was not set. */
+static int mark(uint32_t *row, size_t i) {
+    int was = marked(row, i);
+    row[i / 32] |= (uint32_t)1 << i % 32;
+    return !was;
+}
+
+static int join(uint32_t *to, const uint32_t *from, size_t bits) {
+    int changed = 0;
+    for (size_t i = 0; i < bits; i++)
+        if (marked(from, i)) changed |= mark(to, i);
+    return changed;
+}
+
+static int visit_first(const grammar *g, size_t p, uint32_t *first, uint32_t *empty) {
+    size_t w = width(g), r = g->owners[p];
+    int changed = 0;
+    for (size_t i = g->starts[p]; i < g->starts[p + 1]; i++) {
+        uint16_t s = g->symbols[i];
+        if (s < RULE) return mark(first + r * w, s) | changed;
+        changed |= join(first + r * w, first + (s - RULE) * w, g->tokens);
+        if (!marked(empty, s - RULE)) return changed;
+    }
+    return mark(empty, r) | changed;
+}
+
+/* FOLLOW's rule for the rule symbol at place i of production p. */
+static int step_follow(const grammar *g, size_t p, size_t i, int mode, uint32_t *follow, const uint32_t *first,
+                       const uint32_t *empty) {
+    size_t w = width(g), end = g->starts[p + 1], j;
+    uint32_t *to = follow + (g->symbols[i] - RULE) * w;
+    int changed = 0;
+    for (j = i + 1; j < end && g->symbols[j] >= RULE && marked(empty, g->symbols[j] - RULE); j++)
+        ;
+    if (j == end) changed |= join(to, follow + g->owners[p] * w, g->tokens);
+    /* the walk adds places i+1 up to and with `last` */
+    size_t last = mode == 1 ? i + 1 : j;
+    for (j = i + 1; j <= last && j < end; j++) {
+        uint16_t s = g->symbols[j];
+        changed |= s < RULE ? mark(to, s) : join(to, first + (s - RULE) * w, g->tokens);
+    }
+    return changed;
+}
+
+static int visit_follow(const grammar *g, size_t p, int mode, uint32_t *follow, const uint32_t *first,
+                        const uint32_t *empty) {
+    int changed = 0;
+    for (size_t i = g->starts[p + 1]; i-- > g->starts[p];)
+        if (g->symbols[i] >= RULE) changed |= step_follow(g, p, i, mode, follow, first, empty);
+    return changed;
+}
+
+static int visit_productive(const grammar *g, size_t p, uint32_t *productive) {
+    for (size_t i = g->starts[p]; i < g->starts[p + 1]; i++)
+        if (g->symbols[i] >= RULE && !marked(productive, g->symbols[i] - RULE)) return 0;
+    return mark(productive, g->owners[p]);
+}
+
+/* A production's cost by the entries of a COST table; 65536 for none. */
+static uint32_t price(const grammar *g, size_t p, const uint32_t *cost) {
+    uint64_t sum = 0;
+    for (size_t i = g->starts[p]; i < g->starts[p + 1]; i++) {
+        uint16_t s = g->symbols[i];
+        uint32_t one = s < RULE ? g->costs[s] : cost[s - RULE];
+        if (one > MOST) return NONE;
+        sum += one;
+    }
+    return sum > MOST ? NONE : (uint32_t)sum;
+}
+
+static int visit_cost(const grammar *g, size_t p, uint32_t *cost) {
+    uint32_t sum = price(g, p, cost), r = g->owners[p];
+    if (sum == NONE || sum >= cost[r]) return 0;
+    cost[r] = sum;
+    return 1;
+}
+
+static void clear(uint32_t *table, size_t len, uint32_t word) {
+    for (size_t i = 0; i < len; i++) table[i] = word;
+}
+
+static void clear_follow(const grammar *g, uint32_t *follow) {
+    clear(follow, length_of('T', g), 0);
+    mark(follow, g->tokens - 1);
+}
+
+static void fill_first(const grammar *g, uint32_t *first, uint32_t *empty) {
+    clear(first, length_of('T', g), 0);
+    clear(empty, length_of('E', g), 0);
+    for (int again = 1; again;) {
+        again = 0;
+        for (size_t p = 0; p < g->prods; p++) again |= visit_first(g, p, first, empty);
+    }
+}
+
+static void fill_follow(const grammar *g, int mode, uint32_t *follow, uint32_t *first, uint32_t *empty) {
+    fill_first(g, first, empty);
+    clear_follow(g, follow);
+    for (int again = 1; again;) {
+        again = 0;
+        for (size_t p = 0; p < g->prods; p++) again |= visit_follow(g, p, mode, follow, first, empty);
+    }
+}
+
+static void fill_productive(const grammar *g, uint32_t *productive) {
+    clear(productive, length_of('E', g), 0);
+    for (int again = 1; again;) {
+        again = 0;
+        for (size_t p = 0; p < g->prods; p++) again |= visit_productive(g, p, productive);
+    }
+}
+
+static void fill_cost(const grammar *g, uint32_t *cost) {
+    clear(cost, g->rules, NONE);
+    for (int again = 1; again;) {
+        again = 0;
+        for (size_t p = 0; p < g->prods; p++) again |= visit_cost(g, p, cost);
+    }
+}
+
+/* Whether `to` stands in some form that `from` derives in one or more steps. */
+static int path(const grammar *g, size_t from, size_t to) {
+    uint8_t reached[512] = {0};
+    for (int again = 1; again;) {
+        again = 0;
+        for (size_t p = 0; p < g->prods; p++) {
+            if (g->owners[p] != from && !reached[g->owners[p]]) continue;
+            for (size_t i = g->starts[p]; i < g->starts[p + 1]; i++)
+                if (g->symbols[i] >= RULE && !reached[g->symbols[i] - RULE]) again = reached[g->symbols[i] - RULE] = 1;
+        }
+    }
+    return reached[to];
+}
+
+/* A rule's lowest-numbered production whose cost equals the rule's; the number of productions if it has no cost. */
+static size_t choice(const grammar *g, size_t rule, const uint32_t *cost) {
+    size_t p;
+    if (cost[rule] > MOST) return g->prods;
+    for (p = 0; g->owners[p] != rule || price(g, p, cost) != cost[rule]; p++)
+        ;
+    return p;
+}
+
+/* A production's token count by the rules' lengths, 65536 if above 65535; 65537 if it holds an ungrounded rule. */
+static uint32_t count(const grammar *g, size_t p, const uint32_t *lengths) {
+    uint64_t sum = 0;
+    for (size_t i = g->starts[p]; i < g->starts[p + 1]; i++) {
+        uint16_t s = g->symbols[i];
+        if (s >= RULE && lengths[s - RULE] == UNGROUNDED) return UNGROUNDED;
+        sum += s < RULE ? 1 : lengths[s - RULE];
+    }
+    return sum > MOST ? NONE : (uint32_t)sum;
+}
+
+static void fill_lengths(const grammar *g, const uint32_t *cost, uint32_t *lengths) {
+    clear(lengths, g->rules, UNGROUNDED);
+    for (int again = 1; again;) {
+        again = 0;
+        for (size_t r = 0; r < g->rules; r++) {
+            size_t p = choice(g, r, cost);
+            if (lengths[r] != UNGROUNDED || p == g->prods) continue;
+            lengths[r] = count(g, p, lengths);
+            again |= lengths[r] != UNGROUNDED;
+        }
+    }
+}
+
+static size_t expand(const grammar *g, size_t rule, const uint32_t *cost, const uint32_t *lengths, uint16_t *out,
+                     size_t at) {
+    size_t p = choice(g, rule, cost);
+    for (size_t i = g->starts[p]; i < g->starts[p + 1]; i++) {
+        uint16_t s = g->symbols[i];
+        if (s < RULE)
+            out[at++] = s;
+        else if (lengths[s - RULE])
+            at = expand(g, s - RULE, cost, lengths, out, at);
+    }
+    return at;
+}
+
+static result sentence(call *c) {
+    const grammar *g = &c->g;
+    uint32_t *productive = c->table[0], *cost = c->table[1], *lengths = c->table[2];
+    fill_productive(g, productive);
+    fill_cost(g, cost);
+    fill_lengths(g, cost, lengths);
+    if (!marked(productive, c->rule)) return refused(12);
+    if (cost[c->rule] > MOST) return refused(13);
+    if (lengths[c->rule] == UNGROUNDED) return refused(14);
+    if (lengths[c->rule] > MOST || lengths[c->rule] > c->out_len) return refused(15);
+    return answered(lengths[c->rule] ? (uint32_t)expand(g, c->rule, cost, lengths, c->out, 0) : 0);
+}
+
+/* The first refusal of a call that stands before its work, or 0. */
+static uint32_t refusal_of(const call *c) {
+    const grammar *g = &c->g;
+    uint32_t number = check_of(g);
+    int rule = c->op == MARK || c->op == RULE_MARK || c->op == HAS_PATH || c->op == MIN_SENTENCE_COST ||
+               c->op == MIN_SENTENCE;
+    int prod = c->op == PRODUCTION || c->op == FIRST_VISIT || c->op == PRODUCTIVE_VISIT || c->op == COST_VISIT ||
+               c->op == FOLLOW_VISIT;
+    if (number) return number;
+    for (size_t i = 0; i < strlen(tables_of[c->op]); i++)
+        if (c->table_len[i] != length_of(tables_of[c->op][i], g)) return 7;
+    if ((c->op == FOLLOW_VISIT || c->op == FOLLOW_FILL) && c->mode != 1 && c->mode != 2) return 8;
+    if (rule && c->rule >= g->rules) return 9;
+    if (c->op == HAS_PATH && c->to >= g->rules) return 9;
+    if (c->op == MARK && c->token >= g->tokens) return 10;
+    if (prod && c->prod >= g->prods) return 11;
+    return 0;
+}
+
+static result model(call *c) {
+    const grammar *g = &c->g;
+    uint32_t *a = c->table[0], *b = c->table[1], number = refusal_of(c);
+    result r = {0, {0, 0, 0, 0}};
+    if (number) return refused(number);
+    switch (c->op) {
+    case CHECK:
+        return r;
+    case PRODUCTION:
+        r.field[0] = g->starts[c->prod];
+        r.field[1] = (uint32_t)(g->starts[c->prod + 1] - g->starts[c->prod]);
+        return r;
+    case MARK:
+        return answered((uint32_t)marked(a + c->rule * width(g), c->token));
+    case RULE_MARK:
+        return answered((uint32_t)marked(a, c->rule));
+    case FIRST_CLEAR:
+        clear(a, c->table_len[0], 0);
+        clear(b, c->table_len[1], 0);
+        return r;
+    case FIRST_VISIT:
+        return answered((uint32_t)visit_first(g, c->prod, a, b));
+    case FIRST_FILL:
+        fill_first(g, a, b);
+        return r;
+    case HAS_PATH:
+        return answered((uint32_t)path(g, c->rule, c->to));
+    case PRODUCTIVE_CLEAR:
+        clear(a, c->table_len[0], 0);
+        return r;
+    case PRODUCTIVE_VISIT:
+        return answered((uint32_t)visit_productive(g, c->prod, a));
+    case PRODUCTIVE_FILL:
+        fill_productive(g, a);
+        return r;
+    case COST_CLEAR:
+        clear(a, c->table_len[0], NONE);
+        return r;
+    case COST_VISIT:
+        return answered((uint32_t)visit_cost(g, c->prod, a));
+    case COST_FILL:
+        fill_cost(g, a);
+        return r;
+    case MIN_SENTENCE_COST:
+        fill_productive(g, a);
+        fill_cost(g, b);
+        if (!marked(a, c->rule)) return refused(12);
+        return b[c->rule] > MOST ? refused(13) : answered(b[c->rule]);
+    case FOLLOW_CLEAR:
+        clear_follow(g, a);
+        return r;
+    case FOLLOW_VISIT:
+        return answered((uint32_t)visit_follow(g, c->prod, c->mode, a, b, c->table[2]));
+    case FOLLOW_FILL:
+        fill_follow(g, c->mode, a, b, c->table[2]);
+        return r;
+    case MIN_SENTENCE:
+        return sentence(c);
+    case OPS:
+        break;
+    }
+    return r;
+}
+
+/* The four lists that the reader is lent. */
+typedef struct {
+    uint16_t *owners, *starts, *symbols;
+    uint8_t *costs;
+    size_t owners_len, starts_len, symbols_len, costs_len;
+} lists;
+
+enum { BLOCK = 512, PAYLOAD = 508 };
+
+static uint32_t pair(const uint8_t *low) { return low[0] + 256u * low[1]; }
+
+static uint32_t payload_byte(const uint8_t *file, size_t i) { return file[i / PAYLOAD * BLOCK + 2 + i % PAYLOAD]; }
+
+static uint32_t payload_number(const uint8_t *file, size_t i) {
+    return payload_byte(file, i) + 256u * payload_byte(file, i + 1);
+}
+
+static uint32_t block_sum(const uint8_t *block) {
+    uint32_t sum = 0;
+    for (size_t i = 0; i < 510; i++) sum += block[i];
+    return sum % 65536;
+}
+
+static result read_model(const uint8_t *file, size_t len, lists *to) {
+    size_t blocks = len / BLOCK, at = 8, i;
+    if (to->owners_len != 4096 || to->starts_len != 4097 || to->symbols_len != 16384 || to->costs_len != 512)
+        return refused(7);
+    if (len == 0 || len % BLOCK || blocks > 98) return refused(20);
+    for (i = 0; i < blocks; i++)
+        if (block_sum(file + i * BLOCK) != pair(file + i * BLOCK + 510)) return refused(21);
+    for (i = 0; i < blocks; i++)
+        if (pair(file + i * BLOCK) != i) return refused(22);
+    uint32_t n[4];
+    for (i = 0; i < 4; i++) n[i] = payload_number(file, 2 * i);
+    if (!in_limits(n[0], n[1], n[2], n[3])) return refused(1);
+    size_t due = 8 + 2 * (n[2] + n[2] + 1 + n[3]) + n[1];
+    if (blocks != (due + PAYLOAD - 1) / PAYLOAD) return refused(23);
+    for (i = due; i < blocks * PAYLOAD; i++)
+        if (payload_byte(file, i)) return refused(23);
+    for (i = 0; i < n[2]; i++, at += 2) to->owners[i] = (uint16_t)payload_number(file, at);
+    for (i = 0; i <= n[2]; i++, at += 2) to->starts[i] = (uint16_t)payload_number(file, at);
+    for (i = 0; i < n[3]; i++, at += 2) to->symbols[i] = (uint16_t)payload_number(file, at);
+    for (i = 0; i < n[1]; i++) to->costs[i] = (uint8_t)payload_byte(file, at + i);
+    grammar g = {(uint16_t)n[0], to->owners, to->starts, to->symbols, to->costs, n[2], n[2] + 1, n[3], n[1]};
+    uint32_t number = check_of(&g);
+    if (number) return refused(number);
+    result r = {0, {n[0], n[1], n[2], n[3]}};
+    return r;
+}

@@ -1,0 +1,8 @@
+/* What the programs here use of <stdint.h>. */
+#ifndef STDC_STDINT_H
+#define STDC_STDINT_H
+typedef __UINT8_TYPE__ uint8_t;
+typedef __UINT16_TYPE__ uint16_t;
+typedef __UINT32_TYPE__ uint32_t;
+typedef __UINT64_TYPE__ uint64_t;
+#endif

@@ -1,0 +1,682 @@
+/* Calls every exported function with good and bad input. Each call is made twice, by the library on lists with guard
+ * bytes around them and by the plain model: the answers and every byte lent must be the same, and the guards whole.
+ * Document 01's own numbers stand here as literals besides. Prints one line; messages go to the error stream. */
+#include <stdio.h>
+#include <string.h>
+#include <sys/mman.h>
+
+#include "boltmarrow.h"
+#include "model.h"
+
+enum { WORDS = 1000000, GUARD = 64, PATTERN = 0xA5, SLOTS = 8, FENCE = 65536 };
+
+static unsigned long calls, checks, wrong;
+
+static void expect(const char *what, uint64_t got, uint64_t want) {
+    checks++;
+    if (got == want) return;
+    if (wrong++ < 20)
+        fprintf(stderr, "test: %s: %llu, not %llu\n", what, (unsigned long long)got, (unsigned long long)want);
+}
+
+/* A generator with a fixed seed (xorshift). */
+static uint64_t seed = 88172645463325252u;
+
+static uint32_t next(void) {
+    seed ^= seed << 13;
+    seed ^= seed >> 7;
+    seed ^= seed << 17;
+    return (uint32_t)(seed >> 16);
+}
+
+static uint32_t below(uint32_t n) { return next() % n; }
+
+/* Lent lists: each slot has room for the longest list and ends in a fence, memory that may not be touched. A list
+ * stands either between two guards, shifted by up to seven elements, or with a guard before it and the fence behind,
+ * so that a read past its end is seen too. */
+static uint8_t rooms[SLOTS][4 * WORDS + 3 * FENCE];
+static struct {
+    uint8_t *fence, *at;
+    size_t bytes;
+} lent[SLOTS];
+
+static int build_fences(void) {
+    for (int i = 0; i < SLOTS; i++) {
+        uint8_t *last = rooms[i] + sizeof rooms[i] - FENCE;
+        lent[i].fence = last - (size_t)last % FENCE;
+        if (mprotect(lent[i].fence, FENCE, PROT_NONE)) return 0;
+    }
+    return 1;
+}
+
+static void *lend(int slot, const void *from, size_t count, size_t size) {
+    uint8_t *fence = lent[slot].fence, *low = fence - 4 * WORDS - FENCE / 2;
+    uint8_t *at = below(2) ? fence - count * size : low + GUARD + size * below(8);
+    lent[slot].at = at;
+    lent[slot].bytes = count * size;
+    memset(at - GUARD, PATTERN, GUARD);
+    if (count) memcpy(at, from, count * size);
+    if (at + count * size != fence) memset(at + count * size, PATTERN, GUARD);
+    return at;
+}
+
+static void returned(const char *what, int slot, const void *want) {
+    static uint8_t guard[GUARD];
+    memset(guard, PATTERN, GUARD);
+    uint8_t *at = lent[slot].at;
+    size_t bytes = lent[slot].bytes;
+    expect(what, memcmp(at - GUARD, guard, GUARD) == 0, 1);
+    expect(what, at + bytes == lent[slot].fence || memcmp(at + bytes, guard, GUARD) == 0, 1);
+    expect(what, bytes == 0 || memcmp(at, want, bytes) == 0, 1);
+}
+
+static const char *const names[OPS] = {
+    "check",        "production",       "mark",             "rule_mark",       "first_clear",
+    "first_visit",  "first_fill",       "has_path",         "productive_clear", "productive_visit",
+    "productive_fill", "cost_clear",    "cost_visit",       "cost_fill",       "min_sentence_cost",
+    "follow_clear", "follow_visit",     "follow_fill",      "min_sentence"};
+
+static result pack(boltmarrow_answer a) {
+    result r = {a.refusal, {a.value, 0, 0, 0}};
+    return r;
+}
+
+/* The library's call, on lent copies of the call's lists. */
+static result library(const call *c) {
+    const grammar *g = &c->g;
+    uint16_t *owners = lend(0, g->owners, g->prods, 2), *starts = lend(1, g->starts, g->starts_len, 2);
+    uint16_t *symbols = lend(2, g->symbols, g->symbols_len, 2);
+    uint8_t *costs = lend(3, g->costs, g->tokens, 1);
+    uint32_t *t[3] = {NULL, NULL, NULL};
+    for (int i = 0; i < (int)strlen(tables_of[c->op]); i++) t[i] = lend(4 + i, c->table[i], c->table_len[i], 4);
+    uint16_t *out = c->op == MIN_SENTENCE ? lend(7, c->out, c->out_len, 2) : NULL;
+#define G g->rules, owners, g->prods, starts, g->starts_len, symbols, g->symbols_len, costs, g->tokens
+#define T(i) t[i], c->table_len[i]
+    switch (c->op) {
+    case CHECK:
+        return pack(boltmarrow_check(G));
+    case PRODUCTION: {
+        boltmarrow_stretch s = boltmarrow_production(G, c->prod);
+        result r = {s.refusal, {s.from, s.len, 0, 0}};
+        return r;
+    }
+    case MARK:
+        return pack(boltmarrow_mark(G, T(0), c->rule, c->token));
+    case RULE_MARK:
+        return pack(boltmarrow_rule_mark(G, T(0), c->rule));
+    case FIRST_CLEAR:
+        return pack(boltmarrow_first_clear(G, T(0), T(1)));
+    case FIRST_VISIT:
+        return pack(boltmarrow_first_visit(G, c->prod, T(0), T(1)));
+    case FIRST_FILL:
+        return pack(boltmarrow_first_fill(G, T(0), T(1)));
+    case HAS_PATH:
+        return pack(boltmarrow_has_path(G, c->rule, c->to));
+    case PRODUCTIVE_CLEAR:
+        return pack(boltmarrow_productive_clear(G, T(0)));
+    case PRODUCTIVE_VISIT:
+        return pack(boltmarrow_productive_visit(G, c->prod, T(0)));
+    case PRODUCTIVE_FILL:
+        return pack(boltmarrow_productive_fill(G, T(0)));
+    case COST_CLEAR:
+        return pack(boltmarrow_cost_clear(G, T(0)));
+    case COST_VISIT:
+        return pack(boltmarrow_cost_visit(G, c->prod, T(0)));
+    case COST_FILL:
+        return pack(boltmarrow_cost_fill(G, T(0)));
+    case MIN_SENTENCE_COST:
+        return pack(boltmarrow_min_sentence_cost(G, c->rule, T(0), T(1)));
+    case FOLLOW_CLEAR:
+        return pack(boltmarrow_follow_clear(G, T(0)));
+    case FOLLOW_VISIT:
+        return pack(boltmarrow_follow_visit(G, c->mode, c->prod, T(0), T(1), T(2)));
+    case FOLLOW_FILL:
+        return pack(boltmarrow_follow_fill(G, c->mode, T(0), T(1), T(2)));
+    case MIN_SENTENCE:
+        return pack(boltmarrow_min_sentence(G, c->rule, T(0), T(1), T(2), out, c->out_len));
+    case OPS:
+        break;
+    }
+    return refused(0);
+#undef G
+#undef T
+}
+
+/* Makes a call both ways and compares; the call's own lists then hold what the model left. */
+static result run(call *c) {
+    const char *what = names[c->op];
+    result got = library(c), want = model(c);
+    calls++;
+    expect(what, got.refusal, want.refusal);
+    for (int i = 0; i < 4; i++) expect(what, got.field[i], want.field[i]);
+    returned(what, 0, c->g.owners);
+    returned(what, 1, c->g.starts);
+    returned(what, 2, c->g.symbols);
+    returned(what, 3, c->g.costs);
+    for (int i = 0; i < (int)strlen(tables_of[c->op]); i++) returned(what, 4 + i, c->table[i]);
+    if (c->op == MIN_SENTENCE) returned(what, 7, c->out);
+    return got;
+}
+
+/* A grammar being written down. */
+static uint16_t owners[100001], starts[100001], symbols[100001];
+static uint8_t costs[100001];
+static grammar g;
+
+static void begin(uint16_t rules, size_t tokens, uint8_t cost) {
+    memset(costs, cost, sizeof costs);
+    starts[0] = 0;
+    grammar fresh = {rules, owners, starts, symbols, costs, 0, 1, 0, tokens};
+    g = fresh;
+}
+
+static void add(uint16_t symbol) { symbols[g.symbols_len++] = symbol; }
+
+static void end(uint16_t owner) {
+    owners[g.prods++] = owner;
+    starts[g.starts_len++] = (uint16_t)g.symbols_len;
+}
+
+static void prod(uint16_t owner, const uint16_t *list, size_t count) {
+    for (size_t i = 0; i < count; i++) add(list[i]);
+    end(owner);
+}
+
+#define PROD(owner, ...) prod(owner, (const uint16_t[]){__VA_ARGS__}, sizeof((const uint16_t[]){__VA_ARGS__}) / 2)
+#define R(n) (RULE + (n))
+
+static uint32_t words[3][WORDS];
+static uint16_t output[100000];
+
+/* Words of every kind: sparse, dense, none, all, and numbers near COST's ends. */
+static uint32_t word(void) {
+    static const uint32_t some[] = {0, 0xFFFFFFFF, 65535, 65536, 65537, 1, 65534, 0x80000000};
+    switch (below(5)) {
+    case 0:
+        return next();
+    case 1:
+        return next() & next() & next();
+    case 2:
+        return below(70000);
+    case 3:
+        return below(300);
+    default:
+        return some[below(8)];
+    }
+}
+
+/* A call on the grammar at hand, its tables of the right lengths and full of random words. */
+static call make(op which) {
+    call c = {which, g, 0, 0, 0, 1, 0, {words[0], words[1], words[2]}, {0, 0, 0}, output, 100};
+    for (size_t i = 0; i < strlen(tables_of[which]); i++) {
+        c.table_len[i] = length_of(tables_of[which][i], &g);
+        for (size_t j = 0; j < c.table_len[i]; j++) words[i][j] = word();
+    }
+    for (size_t i = 0; i < 100; i++) output[i] = (uint16_t)next();
+    return c;
+}
+
+static result fill(op which, uint16_t mode) {
+    call c = make(which);
+    c.mode = mode;
+    return run(&c);
+}
+
+/* The tokens that a filled table has for a rule, as bits; by queries. */
+static uint32_t row(uint16_t rule) {
+    uint32_t bits = 0;
+    for (uint16_t t = 0; t < g.tokens; t++) {
+        call c = {MARK, g, rule, t, 0, 0, 0, {words[0]}, {length_of('T', &g)}, NULL, 0};
+        bits |= run(&c).field[0] << t;
+    }
+    return bits;
+}
+
+static uint32_t rule_row(int table) {
+    uint32_t bits = 0;
+    for (uint16_t r = 0; r < g.rules; r++) {
+        call c = {RULE_MARK, g, r, 0, 0, 0, 0, {words[table]}, {length_of('E', &g)}, NULL, 0};
+        bits |= run(&c).field[0] << r;
+    }
+    return bits;
+}
+
+static void follow_is(uint16_t mode, uint16_t rule, uint32_t bits) {
+    fill(FOLLOW_FILL, mode);
+    expect("FOLLOW", row(rule), bits);
+}
+
+static void first_is(uint16_t rule, uint32_t bits) {
+    fill(FIRST_FILL, 0);
+    expect("FIRST", row(rule), bits);
+}
+
+/* The cost query, and the same from a filled table. */
+static void cost_is(uint16_t rule, uint32_t refusal, uint32_t value) {
+    call c = make(MIN_SENTENCE_COST);
+    c.rule = rule;
+    result r = run(&c);
+    expect("cost", r.refusal, refusal);
+    expect("cost", r.field[0], value);
+    fill(COST_FILL, 0);
+    expect("COST", words[0][rule], refusal ? NONE : value);
+}
+
+static void sentence_is(uint16_t rule, size_t room, uint32_t refusal, uint32_t length) {
+    call c = make(MIN_SENTENCE);
+    c.rule = rule;
+    c.out_len = room;
+    result r = run(&c);
+    expect("sentence", r.refusal, refusal);
+    expect("sentence", r.field[0], length);
+}
+
+static void path_is(uint16_t from, uint16_t to, uint32_t yes) {
+    call c = make(HAS_PATH);
+    c.rule = from;
+    c.to = to;
+    expect("path", run(&c).field[0], yes);
+}
+
+static void begin_g1(void) {
+    begin(4, 4, 1);
+    PROD(1, R(2), 0, R(3));
+    PROD(2, 2);
+    prod(2, NULL, 0);
+    PROD(3, 1, 0);
+    prod(3, NULL, 0);
+    PROD(0, R(1));
+}
+
+static void g1(void) {
+    static const uint32_t follow[] = {8, 8, 1, 8}, first[] = {5, 5, 4, 2}, cost[] = {1, 1, 0, 0};
+    static const uint16_t order[] = {5, 0, 1, 2, 3, 4};
+    begin_g1();
+    call c = make(CHECK);
+    expect("G1 check", run(&c).refusal, 0);
+    for (uint16_t r = 0; r < 4; r++) {
+        first_is(r, first[r]);
+        expect("G1 EMPTY", rule_row(1), 12);
+        follow_is(2, r, follow[r]);
+        follow_is(1, r, follow[r]);
+        cost_is(r, 0, cost[r]);
+    }
+    fill(PRODUCTIVE_FILL, 0);
+    expect("G1 PRODUCTIVE", rule_row(0), 15);
+    sentence_is(0, 100, 0, 1);
+    expect("G1 sentence", output[0], 0);
+    sentence_is(2, 0, 0, 0);
+    sentence_is(0, 0, 15, 0);
+    c = make(PRODUCTION);
+    c.prod = 3;
+    result r = run(&c);
+    expect("G1 production", r.field[0] * 10 + r.field[1], 42);
+    fill(FIRST_CLEAR, 0);
+    for (int round = 0; round < 2; round++) {
+        for (int i = 0; i < 6; i++) {
+            call v = {FIRST_VISIT, g, 0, 0, order[i], 0, 0, {words[0], words[1]}, {4, 1}, NULL, 0};
+            run(&v);
+        }
+        expect("G1 rounds", row(1), round ? 5 : 0);
+    }
+}
+
+static void g2_to_g6(void) {
+    begin(4, 4, 1);
+    PROD(0, R(1));
+    PROD(1, R(2), R(3), 2);
+    PROD(2, 0);
+    PROD(3, 1);
+    prod(3, NULL, 0);
+    follow_is(1, 2, 2);
+    follow_is(2, 2, 6);
+
+    begin(2, 2, 1);
+    PROD(0, R(1));
+    PROD(1, R(1));
+    PROD(1, 0);
+    cost_is(1, 0, 1);
+    sentence_is(1, 100, 14, 0);
+    expect("G3 length", words[2][1], UNGROUNDED);
+    path_is(1, 1, 1);
+    path_is(0, 0, 0);
+    path_is(0, 1, 1);
+
+    begin(2, 2, 1);
+    PROD(0, R(1));
+    PROD(1, R(1), 0);
+    first_is(1, 0);
+    cost_is(1, 12, 0);
+    sentence_is(1, 100, 12, 0);
+
+    for (int which = 0; which < 3; which++) {
+        begin(2, 3, 255);
+        costs[1] = 1;
+        PROD(0, R(1));
+        for (int i = 0; i < (which ? 258 : 257); i++) add(0);
+        end(1);
+        if (which == 2) PROD(1, 1);
+        cost_is(1, which == 1 ? 13 : 0, which == 0 ? 65535 : which == 1 ? 0 : 1);
+        sentence_is(1, 300, which == 1 ? 13 : 0, which == 0 ? 257 : which == 1 ? 0 : 1);
+        sentence_is(1, 256, which == 0 ? 15 : which == 1 ? 13 : 0, which == 2);
+    }
+
+    begin(2, 3, 1);
+    PROD(0, R(1));
+    PROD(1, 0, R(1));
+    PROD(1, 1);
+    cost_is(1, 0, 1);
+    sentence_is(1, 100, 0, 1);
+    expect("G6 sentence", output[0], 1);
+}
+
+/* Doubling rules: lengths 65535 and 65536, and sixty that come to nothing. */
+static void lengths(void) {
+    begin(19, 2, 0);
+    PROD(0, R(18));
+    for (uint16_t r = 1; r < 17; r++) PROD(r, R(r + 1), R(r + 1));
+    PROD(17, 0);
+    for (uint16_t r = 2; r < 18; r++) add((uint16_t)R(r));
+    end(18);
+    sentence_is(18, 65535, 0, 65535);
+    sentence_is(18, 65534, 15, 0);
+    sentence_is(18, 100000, 0, 65535);
+    sentence_is(1, 100000, 15, 0);
+    expect("length", words[2][1], NONE);
+
+    begin(61, 1, 0);
+    PROD(0, R(1));
+    for (uint16_t r = 1; r < 60; r++) PROD(r, R(r + 1), R(r + 1));
+    prod(60, NULL, 0);
+    sentence_is(0, 0, 0, 0);
+    for (uint16_t rules = 512; rules < 514; rules++) {
+        begin(rules, 512, 1);
+        for (uint16_t r = 0; r + 1 < rules; r++) PROD(r, R(r + 1));
+        PROD((uint16_t)(rules - 1), 510);
+        for (int o = 0; o < OPS; o++) {
+            call c = make((op)o);
+            expect("R", run(&c).refusal, rules == 513);
+        }
+    }
+}
+
+/* Every call on the grammar at hand gives this refusal. */
+static void all_refuse(uint32_t number) {
+    for (int o = 0; o < OPS; o++) {
+        call c = make((op)o);
+        expect("refusal of a grammar", run(&c).refusal, number);
+        expect("value beside it", run(&c).field[0], 0);
+    }
+}
+
+static void bad_grammars(void) {
+    begin_g1(), g.rules = 1, all_refuse(1);
+    begin_g1(), g.rules = 0, all_refuse(1);
+    begin_g1(), g.rules = 65535, all_refuse(1);
+    begin_g1(), starts[0] = 1, all_refuse(2);
+    begin_g1(), starts[6] = 6, all_refuse(2);
+    begin_g1(), starts[2] = 2, all_refuse(2);
+    begin_g1(), g.starts_len = 6, all_refuse(2);
+    begin_g1(), g.starts_len = 8, all_refuse(2);
+    begin_g1(), owners[1] = 4, all_refuse(3);
+    begin_g1(), owners[1] = 65535, all_refuse(3);
+    begin_g1(), owners[1] = owners[2] = 1, all_refuse(4);
+    begin_g1(), symbols[1] = 3, all_refuse(5);
+    begin_g1(), symbols[1] = R(4), all_refuse(5);
+    begin_g1(), symbols[1] = 65535, all_refuse(5);
+    begin_g1(), symbols[6] = 0, all_refuse(6);
+    begin_g1(), symbols[0] = R(0), all_refuse(6);
+    begin_g1(), owners[2] = 0, all_refuse(6);
+    begin_g1(), starts[5] = 7, all_refuse(6);
+    begin_g1(), starts[4] = starts[5] = 5, all_refuse(6);
+}
+
+/* Every list of every call empty, too long by one, and far too long, also by 65536: no length is cut to 16 bits. */
+static void list_lengths(void) {
+    static const size_t far[] = {70000, 100000, 65536};
+    for (int o = 0; o < OPS; o++) {
+        for (int list = 0; list < 4; list++)
+            for (int how = 0; how < 4; how++) {
+                begin_g1();
+                size_t *of[4] = {&g.prods, &g.starts_len, &g.symbols_len, &g.tokens}, *len = of[list];
+                *len = how == 0 ? 0 : far[how - 1] + (how == 3 ? *len : 0);
+                call c = make((op)o);
+                expect("length of a grammar's list", run(&c).refusal, list == 1 ? 2 : 1);
+            }
+        for (size_t i = 0; i < strlen(tables_of[o]); i++)
+            for (int how = 0; how < 5; how++) {
+                begin_g1();
+                call c = make((op)o);
+                size_t right = c.table_len[i], bad[] = {0, right - 1, right + 1, right + 65536, WORDS};
+                c.table_len[i] = bad[how];
+                expect("length of a table", run(&c).refusal, 7);
+            }
+    }
+    begin_g1();
+    g.prods = 70000, g.starts_len = 70001;
+    all_refuse(1);
+}
+
+/* Numbers just past their ends and far past them. */
+static void numbers(void) {
+    for (int o = 0; o < OPS; o++)
+        for (int far = 0; far < 2; far++) {
+            int rule = o == MARK || o == RULE_MARK || o == HAS_PATH || o == MIN_SENTENCE_COST || o == MIN_SENTENCE;
+            int visit = o == FIRST_VISIT || o == PRODUCTIVE_VISIT || o == COST_VISIT || o == FOLLOW_VISIT;
+            call c;
+            begin_g1();
+            c = make((op)o), c.rule = far ? 65535 : 4;
+            expect("rule number", run(&c).refusal, rule ? 9 : 0);
+            c = make((op)o), c.to = far ? 65535 : 4;
+            expect("second rule number", run(&c).refusal, o == HAS_PATH ? 9 : 0);
+            c = make((op)o), c.token = far ? 65535 : 4;
+            expect("token number", run(&c).refusal, o == MARK ? 10 : 0);
+            c = make((op)o), c.prod = far ? 65535 : 6;
+            expect("production number", run(&c).refusal, visit || o == PRODUCTION ? 11 : 0);
+            c = make((op)o), c.mode = far ? 65535 : 0;
+            expect("mode", run(&c).refusal, o == FOLLOW_VISIT || o == FOLLOW_FILL ? 8 : 0);
+            c = make((op)o), c.mode = 3, c.prod = 6;
+            expect("mode and production", run(&c).refusal,
+                   o == FOLLOW_VISIT || o == FOLLOW_FILL ? 8 : visit || o == PRODUCTION ? 11 : 0);
+            c = make((op)o), c.rule = 4, c.token = 4;
+            expect("rule and token", run(&c).refusal, rule ? 9 : 0);
+        }
+}
+
+/* The reader on lent lists full of random numbers. */
+static uint8_t file[300 * BLOCK];
+static size_t file_len;
+static uint16_t read_owners[70000], read_starts[70000], read_symbols[70000];
+static uint8_t read_costs[70000];
+
+static result read_into(size_t a, size_t b, size_t c, size_t d) {
+    lists to = {read_owners, read_starts, read_symbols, read_costs, a, b, c, d};
+    for (size_t i = 0; i < 70000; i += 1 + below(200)) {
+        read_owners[i] = (uint16_t)next(), read_starts[i] = (uint16_t)next(), read_symbols[i] = (uint16_t)next();
+        read_costs[i] = (uint8_t)next();
+    }
+    uint8_t *f = lend(0, file, file_len, 1);
+    uint16_t *o = lend(1, to.owners, a, 2), *s = lend(2, to.starts, b, 2), *y = lend(3, to.symbols, c, 2);
+    uint8_t *k = lend(4, to.costs, d, 1);
+    boltmarrow_counts n = boltmarrow_read_blocks(f, file_len, o, a, s, b, y, c, k, d);
+    result got = {n.refusal, {n.rules, n.tokens, n.prods, n.symbols}}, want = read_model(file, file_len, &to);
+    calls++;
+    expect("reader's refusal", got.refusal, want.refusal);
+    for (int i = 0; i < 4; i++) expect("reader's count", got.field[i], want.field[i]);
+    returned("reader's file", 0, file);
+    returned("reader's owners", 1, to.owners);
+    returned("reader's starts", 2, to.starts);
+    returned("reader's symbols", 3, to.symbols);
+    returned("reader's costs", 4, to.costs);
+    return got;
+}
+
+static uint32_t read_refusal(void) { return read_into(4096, 4097, 16384, 512).refusal; }
+
+static void seal(void) {
+    for (uint8_t *b = file; b < file + file_len; b += BLOCK) {
+        uint32_t sum = block_sum(b);
+        b[510] = (uint8_t)sum, b[511] = (uint8_t)(sum >> 8);
+    }
+}
+
+static void put(size_t at, uint32_t byte) { file[at / PAYLOAD * BLOCK + 2 + at % PAYLOAD] = (uint8_t)byte; }
+
+static size_t put_numbers(size_t at, const uint16_t *list, size_t count) {
+    for (size_t i = 0; i < count; i++, at += 2) put(at, list[i]), put(at + 1, list[i] >> 8);
+    return at;
+}
+
+/* Writes the grammar at hand as a block file. */
+static void write_file(void) {
+    uint16_t head[] = {g.rules, (uint16_t)g.tokens, (uint16_t)g.prods, (uint16_t)g.symbols_len};
+    size_t due = 8 + 2 * (g.prods + g.prods + 1 + g.symbols_len) + g.tokens, at;
+    file_len = (due + PAYLOAD - 1) / PAYLOAD * BLOCK;
+    memset(file, 0, sizeof file);
+    for (size_t b = 0; b < file_len / BLOCK; b++) file[b * BLOCK] = (uint8_t)b;
+    at = put_numbers(0, head, 4);
+    at = put_numbers(at, owners, g.prods);
+    at = put_numbers(at, starts, g.prods + 1);
+    at = put_numbers(at, symbols, g.symbols_len);
+    for (size_t i = 0; i < g.tokens; i++) put(at + i, costs[i]);
+    seal();
+}
+
+static void g1_file(void) {
+    begin_g1();
+    write_file();
+}
+
+static void reader(void) {
+    g1_file();
+    expect("G1's length", file_len, 512);
+    expect("G1's check", pair(file + 510), 459);
+    result r = read_into(4096, 4097, 16384, 512);
+    expect("G1's counts", r.field[0] * 1000 + r.field[1] * 100 + r.field[2] * 10 + r.field[3], 4467);
+    expect("G1's lists", !memcmp(read_owners, owners, 12) && !memcmp(read_starts, starts, 14) &&
+                             !memcmp(read_symbols, symbols, 14) && !memcmp(read_costs, costs, 4), 1);
+    static const size_t right[4] = {4096, 4097, 16384, 512}, bad[] = {0, 1, 65536, 70000};
+    for (int list = 0; list < 4; list++)
+        for (int how = 0; how < 6; how++) {
+            size_t n[4];
+            memcpy(n, right, sizeof n);
+            n[list] = how < 4 ? bad[how] : how == 4 ? right[list] - 1 : right[list] + 1;
+            expect("reader's lists", read_into(n[0], n[1], n[2], n[3]).refusal, 7);
+        }
+    for (file_len = 0; file_len < 1100; file_len++)
+        if (file_len != 512 && file_len != 1024) expect("file's length", read_refusal(), 20);
+    file_len = 99 * BLOCK, expect("99 blocks", read_refusal(), 20);
+    file_len = 65536 + 512, expect("129 blocks", read_refusal(), 20);
+    file_len = sizeof file, expect("300 blocks", read_refusal(), 20);
+    for (size_t at = 0; at < 512; at++) {
+        g1_file(), file[at] ^= 1, expect("a flipped bit", read_refusal(), 21);
+        /* past the number, the four counts, 20 numbers and 4 costs, all is spare */
+        if (at >= 2 + 8 + 40 + 4 && at < 510) seal(), expect("a spare byte", read_refusal(), 23);
+    }
+    g1_file(), file[0] = 1, seal(), expect("block number", read_refusal(), 22);
+    g1_file(), file[1] = 1, seal(), expect("block number", read_refusal(), 22);
+    for (int i = 0; i < 4; i++) {
+        g1_file(), file[2 + 2 * i] = 0, seal(), expect("a count of 0", read_refusal(), 1);
+        g1_file(), file[3 + 2 * i] = 255, seal(), expect("a count past its limit", read_refusal(), 1);
+    }
+    g1_file(), file_len = 1024, file[512] = 1, seal(), expect("a block too many", read_refusal(), 23);
+    g1_file(), file[7] = 2, seal(), expect("blocks missing", read_refusal(), 23);
+    begin_g1(), starts[2] = 2, write_file(), expect("file", read_refusal(), 2);
+    begin_g1(), owners[1] = 4, write_file(), expect("file", read_refusal(), 3);
+    begin_g1(), owners[1] = owners[2] = 1, write_file(), expect("file", read_refusal(), 4);
+    begin_g1(), symbols[1] = 3, write_file(), expect("file", read_refusal(), 5);
+    begin_g1(), symbols[0] = R(0), write_file(), expect("file", read_refusal(), 6);
+    begin(512, 512, 7);
+    PROD(0, R(1));
+    for (uint32_t p = 1; p < 4096; p++) {
+        for (int i = 0; i < 4 && g.symbols_len < 16384; i++) add((uint16_t)below(511));
+        end((uint16_t)(1 + p % 511));
+    }
+    while (g.symbols_len < 16384) add(3), starts[4096]++;
+    write_file();
+    expect("the largest file", file_len, 98 * BLOCK);
+    expect("the largest file", read_refusal(), 0);
+}
+
+/* A well-formed grammar, small or with rows of several words. In a layered one a rule holds only the next
+ * three rules, so that sentences grow long and dear. */
+static void random_grammar(void) {
+    uint16_t rules = (uint16_t)(2 + below(below(4) ? 7 : 69));
+    size_t tokens = 1 + below(below(4) ? 6 : 70), extra = below(rules + 4);
+    int layered = below(3) == 0;
+    begin(rules, tokens, 0);
+    for (size_t i = 0; i < tokens; i++) costs[i] = (uint8_t)(below(3) ? below(4) : below(256));
+    for (size_t p = 0; p < rules + extra; p++) {
+        uint16_t owner = (uint16_t)(p < rules ? (p + 1) % rules : 1 + below(rules - 1u));
+        uint16_t from = layered ? (uint16_t)(owner + 1) : 1;
+        size_t len = owner == 0 ? 1 : layered ? 1 + below(4) : below(5);
+        for (size_t i = 0; i < len; i++) {
+            uint32_t rest = (uint32_t)rules - from, near = layered && rest > 3 ? 3 : rest;
+            int token = owner != 0 && tokens > 1 && (rest == 0 || below(layered ? 8 : 2) == 0);
+            if (token)
+                add((uint16_t)below((uint32_t)tokens - 1));
+            else if (rest)
+                add((uint16_t)R(from + below(near)));
+        }
+        end(owner);
+    }
+}
+
+static void damage(void) {
+    switch (below(5)) {
+    case 0:
+        owners[below((uint32_t)g.prods)] = (uint16_t)below(g.rules + 2u);
+        break;
+    case 1:
+        starts[below((uint32_t)g.starts_len)] = (uint16_t)below((uint32_t)g.symbols_len + 2);
+        break;
+    case 2:
+        symbols[below((uint32_t)g.symbols_len)] =
+            (uint16_t)(below(2) ? R(below(g.rules + 2u)) : below((uint32_t)g.tokens + 2));
+        break;
+    case 3:
+        g.rules = (uint16_t)(g.rules + below(3) - 1);
+        break;
+    default:
+        g.tokens = below(2) ? g.tokens + 1 : g.tokens - 1;
+    }
+}
+
+/* Random calls: tables of random words, then calls of one kind upon what earlier ones left. */
+static void random_calls(int grammars) {
+    for (int n = 0; n < grammars; n++) {
+        random_grammar();
+        if (below(4) == 0) damage();
+        call c = make((op)below(OPS));
+        for (int i = 0; i < 12; i++) {
+            c.rule = (uint16_t)below(g.rules + 1u), c.to = (uint16_t)below(g.rules + 1u);
+            c.token = (uint16_t)below((uint32_t)g.tokens + 1), c.prod = (uint16_t)below((uint32_t)g.prods + 1);
+            c.mode = (uint16_t)(below(8) ? 1 + below(2) : below(4)), c.out_len = below(below(8) ? 60 : 100000);
+            size_t *len = &c.table_len[below(3)], right = *len;
+            if (below(12) == 0) *len = right + below(3) - (right > 0);
+            run(&c);
+            *len = right;
+        }
+        if (g.rules && g.tokens < 60000 && below(3) == 0) {
+            write_file();
+            if (below(2)) file[below((uint32_t)file_len)] ^= (uint8_t)(1u << below(8));
+            if (below(2)) seal();
+            if (below(8) == 0) file_len += BLOCK;
+            read_refusal();
+        }
+    }
+}
+
+int main(void) {
+    expect("fences", (uint64_t)build_fences(), 1);
+    g1();
+    g2_to_g6();
+    lengths();
+    bad_grammars();
+    list_lengths();
+    numbers();
+    reader();
+    random_calls(4000);
+    printf("test: %lu calls, %lu checks, %lu wrong\n", calls, checks, wrong);
+    return wrong != 0;
+}

@@ -1,0 +1,167 @@
+-- A claim whose test is true means what it says.
+use mathlib.Core.Bool.{Bool, true, false, not, _&&_, _||_, false≢true, true≢false}
+use mathlib.Core.List.{List, [], _∷_, List·Memᴰ, List·Memᴰ·head, List·Memᴰ·tail, List·Memᴰ·cases-cons, List·Memᴰ·not-nil}
+use mathlib.Core.Logic.{_⊎_, inl, inr, _↔_}
+use mathlib.Core.Path.{_≡_, refl, sym, ap, ap₂, _∙_, subst}
+use Prim.Native.Nat.{ℕ, zero, suc, _*_, _≤_, _<_}
+use native.Mathlib.Nat.{eq-or-lt-of-le, le-of-suc-le-suc, not-suc-le-zero}
+use native.Mathlib.Omega.{arith}
+use lib.Dec.{eqb, leb}
+use lib.ListN.{length, replicate, length-replicate}
+use borrow.Author.Tests.{eqb-true, leb-true, eq-eqb, not-true}
+use Rattle.theory.specs.Definitions.{First, Productive, Cost, Path}
+use Rattle.theory.specs.Follow.{Mode, Follow}
+use Rattle.theory.specs.Grammar.{Sym, tok, rul, Form, Grammar}
+use Rattle.theory.specs.Levels.{Chosen, within, expanded}
+use Rattle.theory.specs.Rounds.{run}
+use Rattle.theory.specs.Search.{Chain, one, link}
+use Rattle.theory.specs.Sentences.{Grounded, Expands}
+use Rattle.theory.specs.Tables.{Proper, FirstExact, FollowExact, ProductiveExact, CostExact}
+use Rattle.theory.specs.Visits.{Costs, firstVisit, firstCleared}
+use Rattle.theory.proofs.Bools.{and-split, or-split, or-left, or-right}
+use Rattle.theory.proofs.Choices.{choices-chosen}
+use Rattle.theory.proofs.Cost.{costs-one}
+use Rattle.theory.proofs.CostRounds.{cost-any-order}
+use Rattle.theory.proofs.First.{first-any-order}
+use Rattle.theory.proofs.Follow.{follow-any-order}
+use Rattle.theory.proofs.Levels.{grounded-levels, within-expands}
+use Rattle.theory.proofs.Paths.{Uses, path-chain}
+use Rattle.theory.proofs.Productive.{productive-any-order}
+use Rattle.theory.proofs.Rounds.{upto, upto-round, all-rounds, settled-exact}
+use Rattle.grammar.specs.Flat.{Flat, denoted, price}
+use Rattle.grammar.specs.Outcome.{Outcome, answers, refused}
+use Rattle.grammar.specs.Production.{checkOf}
+use Rattle.grammar.proofs.Denoted.{proper}
+use Rattle.grammar.proofs.Well.{well}
+use Rattle.claims.specs.Claims.{Claim, firstIs, followIs, marksAre, costIs, noSentence, circular, sentenceIs, path, noPath, Means, AllMean}
+use Rattle.claims.proofs.Tests.{isAnswer, many, firstFilled, followFilled, productiveFilled, costFilled, chosen, holds, sameList, same, agree, within-form, uses, leads, unused, grammarOf, looked, test, tests}
+
+-- lookups
+same-is : (a b : Bool) → same a b ≡ true → a ≡ b
+same-is true b e = sym e
+same-is false b e = sym (not-true b e)
+
+agree-at : (n : ℕ) (f : ℕ → Bool) (ts : List ℕ) → agree n f ts ≡ true → (t : ℕ) → t < n → f t ≡ holds t ts
+agree-at zero f ts e t lt = absurd (not-suc-le-zero lt)
+agree-at (suc n) f ts e t lt =
+    let s = and-split (same (f n) (holds n ts)) _ e in
+    let ih : t < n → f t ≡ holds t ts = agree-at n f ts (s .1) t in
+    elim (eq-or-lt-of-le (le-of-suc-le-suc lt)) [ inl d ↦ ap f d ∙ same-is _ _ (s .0) ∙ ap (λ z. holds z ts) (sym d) | inr l ↦ ih l ]
+
+holds-mem : (t : ℕ) (ts : List ℕ) → holds t ts ≡ true → List·Memᴰ t ts
+holds-mem t [] e = absurd (false≢true e)
+holds-mem t (s ∷ ts) e =
+    let ih : holds t ts ≡ true → List·Memᴰ t ts = holds-mem t ts in
+    elim (or-split (eqb t s) _ e) [ inl k ↦ List·Memᴰ·head (eqb-true t s k) | inr k ↦ List·Memᴰ·tail (ih k) ]
+
+mem-holds : (t : ℕ) (ts : List ℕ) → List·Memᴰ t ts → holds t ts ≡ true
+mem-holds t [] m = absurd (List·Memᴰ·not-nil m)
+mem-holds t (s ∷ ts) m =
+    let ih : List·Memᴰ t ts → holds t ts ≡ true = mem-holds t ts in
+    elim (List·Memᴰ·cases-cons m) [ inl d ↦ or-left _ (eq-eqb t s d) | inr n ↦ or-right (eqb t s) (ih n) ]
+
+set-is : {A : Type 0} (f : Bool) (t : ℕ) (ts : List ℕ) → A ↔ (f ≡ true) → f ≡ holds t ts → A ↔ List·Memᴰ t ts
+set-is f t ts x e = ((λ a. holds-mem t ts (sym e ∙ x .0 a)), λ m. x .1 (e ∙ mem-holds t ts m))
+
+list-same : (xs ys : List ℕ) → sameList xs ys ≡ true → xs ≡ ys
+list-same [] [] e = refl
+list-same [] (y ∷ ys) e = absurd (false≢true e)
+list-same (x ∷ xs) [] e = absurd (false≢true e)
+list-same (x ∷ xs) (y ∷ ys) e = let s = and-split (eqb x y) _ e in ap₂ _∷_ (eqb-true x y (s .0)) (list-same xs ys (s .1))
+
+-- paths
+form-holds : (b : ℕ) (α : Form) → within-form b α ≡ true → List·Memᴰ (rul b) α
+form-holds b [] e = absurd (false≢true e)
+form-holds b (tok t ∷ α) e = List·Memᴰ·tail (form-holds b α e)
+form-holds b (rul r ∷ α) e =
+    let ih : within-form b α ≡ true → List·Memᴰ (rul b) α = form-holds b α in
+    elim (or-split (eqb b r) _ e) [ inl k ↦ List·Memᴰ·head (ap rul (eqb-true b r k)) | inr k ↦ List·Memᴰ·tail (ih k) ]
+
+holds-form : (b : ℕ) (α : Form) → List·Memᴰ (rul b) α → within-form b α ≡ true
+holds-form b [] m = absurd (List·Memᴰ·not-nil m)
+holds-form b (tok t ∷ α) m =
+    let ih : List·Memᴰ (rul b) α → within-form b α ≡ true = holds-form b α in
+    elim (List·Memᴰ·cases-cons m) [ inl d ↦ let z : _≡_ {A = ℕ} 0 1 = cc in absurd (omega arith) | inr n ↦ ih n ]
+holds-form b (rul r ∷ α) m =
+    let ih : List·Memᴰ (rul b) α → within-form b α ≡ true = holds-form b α in
+    elim (List·Memᴰ·cases-cons m) [ inl d ↦ let i : b ≡ r = cc in or-left _ (eq-eqb b r i) | inr n ↦ or-right (eqb b r) (ih n) ]
+
+module _ (d : Grammar) where
+  uses-is : (n : ℕ) → n ≤ d .prods → (a b : ℕ) → uses d n a b ≡ true → Uses d a b
+  uses-is zero l a b e = absurd (false≢true e)
+  uses-is (suc p) l a b e =
+      let ih : uses d p a b ≡ true → Uses d a b = uses-is p (omega arith) a b in
+      elim (or-split (eqb (d .owner p) a && within-form b (d .body p)) _ e) [
+        | inl k ↦ let s = and-split (eqb (d .owner p) a) _ k in record { prod = p; isProd = l; owns = eqb-true _ a (s .0); holds = form-holds b (d .body p) (s .1) }
+        | inr k ↦ ih k
+      ]
+
+  leads-is : (a : ℕ) (by : List ℕ) (b : ℕ) → leads d a by b ≡ true → Chain (Uses d) a b
+  leads-is a [] b e = one (uses-is (d .prods) (omega arith) a b e)
+  leads-is a (c ∷ by) b e = let s = and-split (uses d (d .prods) a c) _ e in link (uses-is (d .prods) (omega arith) a c (s .0)) (leads-is c by b (s .1))
+
+  unused-is : (n b : ℕ) → unused d n b ≡ true → (p : ℕ) → p < n → List·Memᴰ (rul b) (d .body p) → ⊥
+  unused-is zero b e p lt m = not-suc-le-zero lt
+  unused-is (suc n) b e p lt m =
+      let s = and-split (not (within-form b (d .body n))) _ e in
+      let ih : p < n → ⊥ = λ l. unused-is n b (s .1) p l m in
+      elim (eq-or-lt-of-le (le-of-suc-le-suc lt)) [
+        | inl q ↦ true≢false (sym (holds-form b (d .body n) (subst (λ z. List·Memᴰ (rul b) (d .body z)) q m)) ∙ not-true _ (s .0))
+        | inr l ↦ ih l
+      ]
+
+  unused-chain : (b : ℕ) → unused d (d .prods) b ≡ true → {a : ℕ} → Chain (Uses d) a b → ⊥
+  unused-chain b e (one u) = unused-is (d .prods) b e (u .prod) (u .isProd) (u .holds)
+  unused-chain b e (link u c) = unused-chain b e c
+
+-- tables
+module _ (d : Grammar) (ok : Proper d) where
+  enough : (n : ℕ) → n ≤ length (many d n)
+  enough n = omega (arith, length-replicate n (upto (d .prods)))
+
+  first-right : FirstExact d (firstFilled d)
+  first-right = settled-exact (first-any-order d ok) (many d (d .rules * d .tokens)) (all-rounds (d .rules * d .tokens) (upto (d .prods)) (upto-round (d .prods))) (enough (d .rules * d .tokens))
+
+  follow-right : (mode : Mode) → FollowExact d mode (followFilled d mode)
+  follow-right mode = settled-exact (follow-any-order d ok mode (firstFilled d) first-right) (many d (d .rules * d .tokens)) (all-rounds (d .rules * d .tokens) (upto (d .prods)) (upto-round (d .prods))) (enough (d .rules * d .tokens))
+
+  productive-right : ProductiveExact d (productiveFilled d)
+  productive-right = settled-exact (productive-any-order d ok) (many d (d .rules)) (all-rounds (d .rules) (upto (d .prods)) (upto-round (d .prods))) (enough (d .rules))
+
+  cost-right : (k : ℕ → ℕ) → CostExact d k (costFilled d k)
+  cost-right k = settled-exact (cost-any-order d k ok) (many d (d .rules)) (all-rounds (d .rules) (upto (d .prods)) (upto-round (d .prods))) (enough (d .rules))
+
+  picks : (k : ℕ → ℕ) → Chosen d k (costFilled d k) (chosen d k)
+  picks k = choices-chosen d k (costFilled d k)
+
+fine : (g : Flat) → isAnswer (checkOf g) ≡ true → Proper (denoted g)
+fine g e = go (checkOf g) refl e
+  where
+    go : (o : Outcome (Unit {0})) → checkOf g ≡ o → isAnswer o ≡ true → Proper (denoted g)
+    go (answers tt) q k = proper g (well g q)
+    go (refused n) q k = absurd (false≢true k)
+
+means : (c : Claim) → Proper (denoted (grammarOf c)) → looked c ≡ true → Means c
+means (firstIs g r ts) ok e = λ t l. set-is _ t ts (first-right (denoted g) ok .first r t) (agree-at (length (g .costs)) _ ts e t l)
+means (followIs g mode r ts) ok e = λ t l. set-is _ t ts (follow-right (denoted g) ok mode r t) (agree-at (length (g .costs)) _ ts e t l)
+means (marksAre g v r ts) ok e = λ t l. set-is _ t ts ((λ k. k), λ k. k) (agree-at (length (g .costs)) _ ts e t l)
+means (costIs g r n) ok e = subst (λ z. Cost (denoted g) (price g) r z) (eqb-true _ n e) (cost-right (denoted g) ok (price g) r)
+means (noSentence g r) ok e = λ h. true≢false (sym (productive-right (denoted g) ok r .0 h) ∙ not-true _ e)
+means (circular g r) ok e = λ c x.
+    let s = and-split (leb (costFilled (denoted g) (price g) r) 65535) _ e in
+    subst (λ z. (z r ≤ 65535) × (Grounded (denoted g) (price g) z (rul r ∷ []) → ⊥)) (costs-one (denoted g) (price g) _ c (cost-right (denoted g) ok (price g)) x)
+    (leb-true _ 65535 (s .0), λ y. true≢false (sym (grounded-levels (denoted g) (price g) (costFilled (denoted g) (price g)) ok (chosen (denoted g) (price g)) (picks (denoted g) ok (price g)) r .0 y) ∙ not-true _ (s .1)))
+means (sentenceIs g r w) ok e = λ c x.
+    let s = and-split (within (denoted g) (chosen (denoted g) (price g)) (g .rules) r) _ e in
+    subst (λ z. Expands (denoted g) (price g) z (rul r ∷ []) w) (costs-one (denoted g) (price g) _ c (cost-right (denoted g) ok (price g)) x)
+    (subst (λ z. Expands (denoted g) (price g) (costFilled (denoted g) (price g)) (rul r ∷ []) z) (list-same _ w (s .1)) (within-expands (denoted g) (price g) (costFilled (denoted g) (price g)) ok (chosen (denoted g) (price g)) (picks (denoted g) ok (price g)) (g .rules) r (s .0)))
+means (path g a by b) ok e = path-chain .1 (leads-is (denoted g) a by b e)
+means (noPath g a b) ok e = λ p. unused-chain (denoted g) b e (path-chain .0 p)
+
+pub decided : (c : Claim) → test c ≡ true → Means c
+decided c e = let s = and-split (isAnswer (checkOf (grammarOf c))) _ e in means c (fine (grammarOf c) (s .0)) (s .1)
+
+-- one lemma for all claims of a list
+pub all-decided : (cs : List Claim) → tests cs ≡ true → AllMean cs
+all-decided [] e = tt
+all-decided (c ∷ cs) e = let s = and-split (test c) _ e in (decided c (s .0), all-decided cs (s .1))

@@ -1,0 +1,10 @@
+-- Document 01's starred lines, proved together.
+use mathlib.Core.Path.{_≡_, refl}
+use Rattle.theory.specs.Below.{some, count}
+use Rattle.grammar.specs.Refusals.{sizesOut, falls, startsWrong, ownerOut, owns, ruleUnowned, symbolOut, symbolsOut, startCount, oneRule, startLong, startHeld, startWrong, unlessDue}
+use Rattle.claims.specs.Claims.{AllMean, starred}
+use Rattle.claims.proofs.Decided.{all-decided}
+
+pub table : AllMean starred
+unfolding some count sizesOut falls startsWrong ownerOut owns ruleUnowned symbolOut symbolsOut startCount oneRule startLong startHeld startWrong unlessDue
+table = all-decided starred refl

@@ -1,0 +1,108 @@
+-- The test of a claim: tables filled by enough rounds, and looked up.
+use mathlib.Core.Bool.{Bool, true, false, not, _&&_, _||_}
+use mathlib.Core.List.{List, [], _∷_}
+use Prim.Native.Nat.{ℕ, zero, suc, _*_}
+use lib.Dec.{eqb, leb, ltb}
+use lib.ListN.{length, replicate}
+use Rattle.theory.specs.Follow.{Mode}
+use Rattle.theory.specs.Grammar.{Sym, tok, rul, Form, Grammar}
+use Rattle.theory.specs.Levels.{Choices, choicesBelow, within, expanded}
+use Rattle.theory.specs.Rounds.{run, rounds}
+use Rattle.theory.specs.Visits.{Table, Row, Costs, Marks, firstVisit, firstCleared, followVisit, followCleared, productiveVisit, productiveCleared, costVisit, costCleared}
+use Rattle.theory.proofs.Rounds.{upto}
+use Rattle.grammar.specs.Flat.{Flat, denoted, price}
+use Rattle.grammar.specs.Outcome.{Outcome, answers, refused}
+use Rattle.grammar.specs.Production.{checkOf}
+use Rattle.claims.specs.Claims.{Claim, firstIs, followIs, marksAre, costIs, noSentence, circular, sentenceIs, path, noPath}
+
+abbrev pub isAnswer : {A : Type 0} → Outcome A → Bool
+isAnswer (answers x) = true
+isAnswer (refused n) = false
+
+-- n rounds in rising order
+abbrev pub many : Grammar → ℕ → List (List ℕ)
+many d n = replicate n (upto (d .prods))
+
+abbrev pub firstFilled : Grammar → Marks
+firstFilled d = rounds (firstVisit d) (many d (d .rules * d .tokens)) firstCleared
+
+abbrev pub followFilled : Grammar → Mode → Table
+followFilled d mode = rounds (followVisit d mode (firstFilled d)) (many d (d .rules * d .tokens)) (followCleared d)
+
+abbrev pub productiveFilled : Grammar → Row
+productiveFilled d = rounds (productiveVisit d) (many d (d .rules)) productiveCleared
+
+abbrev pub costFilled : Grammar → (ℕ → ℕ) → Costs
+costFilled d k = rounds (costVisit d k) (many d (d .rules)) costCleared
+
+abbrev pub chosen : Grammar → (ℕ → ℕ) → Choices
+chosen d k = choicesBelow d k (costFilled d k) (d .prods)
+
+-- a number in a list, and lists that are the same
+abbrev pub holds : ℕ → List ℕ → Bool
+holds t [] = false
+holds t (s ∷ ts) = eqb t s || holds t ts
+
+abbrev pub sameList : List ℕ → List ℕ → Bool
+sameList [] [] = true
+sameList [] (y ∷ ys) = false
+sameList (x ∷ xs) [] = false
+sameList (x ∷ xs) (y ∷ ys) = eqb x y && sameList xs ys
+
+abbrev pub same : Bool → Bool → Bool
+same true b = b
+same false b = not b
+
+-- the same below n
+abbrev pub agree : ℕ → (ℕ → Bool) → List ℕ → Bool
+agree zero f ts = true
+agree (suc n) f ts = same (f n) (holds n ts) && agree n f ts
+
+-- a rule stands in a form; a production of a holds b; each of the rules leads to the next
+abbrev pub within-form : ℕ → Form → Bool
+within-form b [] = false
+within-form b (tok t ∷ α) = within-form b α
+within-form b (rul r ∷ α) = eqb b r || within-form b α
+
+abbrev pub uses : Grammar → ℕ → (a b : ℕ) → Bool
+uses d zero a b = false
+uses d (suc p) a b = (eqb (d .owner p) a && within-form b (d .body p)) || uses d p a b
+
+abbrev pub leads : Grammar → (a : ℕ) → List ℕ → (b : ℕ) → Bool
+leads d a [] b = uses d (d .prods) a b
+leads d a (c ∷ by) b = uses d (d .prods) a c && leads d c by b
+
+-- no production holds b
+abbrev pub unused : Grammar → ℕ → (b : ℕ) → Bool
+unused d zero b = true
+unused d (suc p) b = not (within-form b (d .body p)) && unused d p b
+
+abbrev pub grammarOf : Claim → Flat
+grammarOf (firstIs g r ts) = g
+grammarOf (followIs g mode r ts) = g
+grammarOf (marksAre g v r ts) = g
+grammarOf (costIs g r n) = g
+grammarOf (noSentence g r) = g
+grammarOf (circular g r) = g
+grammarOf (sentenceIs g r w) = g
+grammarOf (path g a by b) = g
+grammarOf (noPath g a b) = g
+
+abbrev pub looked : Claim → Bool
+looked (firstIs g r ts) = agree (length (g .costs)) (λ t. firstFilled (denoted g) .first r t) ts
+looked (followIs g mode r ts) = agree (length (g .costs)) (λ t. followFilled (denoted g) mode r t) ts
+looked (marksAre g v r ts) = agree (length (g .costs)) (λ t. run (firstVisit (denoted g)) v firstCleared .first r t) ts
+looked (costIs g r n) = eqb (costFilled (denoted g) (price g) r) n
+looked (noSentence g r) = not (productiveFilled (denoted g) r)
+looked (circular g r) = leb (costFilled (denoted g) (price g) r) 65535 && not (within (denoted g) (chosen (denoted g) (price g)) (g .rules) r)
+looked (sentenceIs g r w) = within (denoted g) (chosen (denoted g) (price g)) (g .rules) r && sameList (expanded (denoted g) (chosen (denoted g) (price g)) (g .rules) r) w
+looked (path g a by b) = leads (denoted g) a by b
+looked (noPath g a b) = unused (denoted g) (denoted g .prods) b
+
+-- the grammar is well-formed, and what its tables hold is what is claimed
+abbrev pub test : Claim → Bool
+test c = isAnswer (checkOf (grammarOf c)) && looked c
+
+abbrev pub tests : List Claim → Bool
+tests [] = true
+tests (c ∷ cs) = test c && tests cs

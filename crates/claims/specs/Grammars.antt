@@ -1,0 +1,23 @@
+-- Document 01's grammars G1 to G4 and G6. G2 to G6 are shown there without rule 0, whose one production is the first rule named, and without eof, the last token.
+use mathlib.Core.List.{List, [], _∷_}
+use Rattle.grammar.specs.Flat.{Flat, flat}
+
+-- rules 0 start, 1 Num, 2 Sign, 3 Frac; tokens 0 digits, 1 comma, 2 minus, 3 eof; costs all 1
+abbrev pub g1 : Flat
+g1 = flat 4 (1 ∷ 2 ∷ 2 ∷ 3 ∷ 3 ∷ 0 ∷ []) (0 ∷ 3 ∷ 4 ∷ 4 ∷ 6 ∷ 6 ∷ 7 ∷ []) (32770 ∷ 0 ∷ 32771 ∷ 2 ∷ 1 ∷ 0 ∷ 32769 ∷ []) (1 ∷ 1 ∷ 1 ∷ 1 ∷ [])
+
+-- S: A B c; A: a; B: b; B: nothing. Rules 1 S, 2 A, 3 B; tokens 0 a, 1 b, 2 c
+abbrev pub g2 : Flat
+g2 = flat 4 (0 ∷ 1 ∷ 2 ∷ 3 ∷ 3 ∷ []) (0 ∷ 1 ∷ 4 ∷ 5 ∷ 6 ∷ 6 ∷ []) (32769 ∷ 32770 ∷ 32771 ∷ 2 ∷ 0 ∷ 1 ∷ []) (1 ∷ 1 ∷ 1 ∷ 1 ∷ [])
+
+-- A: A; A: a, with a costing 1
+abbrev pub g3 : Flat
+g3 = flat 2 (0 ∷ 1 ∷ 1 ∷ []) (0 ∷ 1 ∷ 2 ∷ 3 ∷ []) (32769 ∷ 32769 ∷ 0 ∷ []) (1 ∷ 1 ∷ [])
+
+-- A: A a
+abbrev pub g4 : Flat
+g4 = flat 2 (0 ∷ 1 ∷ []) (0 ∷ 1 ∷ 3 ∷ []) (32769 ∷ 32769 ∷ 0 ∷ []) (1 ∷ 1 ∷ [])
+
+-- A: b A; A: a, costs 1. Tokens 0 b, 1 a
+abbrev pub g6 : Flat
+g6 = flat 2 (0 ∷ 1 ∷ 1 ∷ []) (0 ∷ 1 ∷ 3 ∷ 4 ∷ []) (32769 ∷ 0 ∷ 32769 ∷ 1 ∷ []) (1 ∷ 1 ∷ 1 ∷ [])

@@ -1,13 +1,15 @@
 #!/usr/bin/env python3
 """Compares the Rust crate, by target/oracle/oracle (tools/oracle/build), with tools/plain.py.
 
-    tools/oracle/check.py [COUNT [SEED]]       COUNT random grammars beside examples/*.txt; 300 and 1 if not given
+    tools/oracle/check.py [COUNT [SEED]]       COUNT random grammars (300) from a SEED (1), beside those below and
+                                               examples/*.txt
 
 FIRST, EMPTY, mode 1 FOLLOW and all paths must be equal; so must the costs where the Rust returns, and a sentence where
 it returns and no production used has a rule followed by a token or by a rule whose sentence is not empty. At such a
 place the Rust's sentence must be the one that taking the rest again gives. Where the Rust does not return, or panics,
 the grammar must have what the named difference says. Each kind is counted; a difference of no kind is shown with the
-smallest grammar that has it, and the program exits with 1.
+smallest grammar that has it, and the program exits with 1. What document 01 and docs/DIFFERENCES.md say of the Rust on
+one grammar is held to its answer there.
 """
 import collections
 import importlib.machinery
@@ -31,6 +33,37 @@ LOADER.exec_module(blocks)
 ORACLE = TOP / "target" / "oracle" / "oracle"
 STOPPED = ("out of time", "out of memory")
 STEPS = 1_000_000  # so many steps of min_sentence fit well into the oracle's time
+
+# Smallest inputs of docs/DIFFERENCES.md that are no examples, in the form of bin/blocks.
+CASES = {
+    "order": "tokens a b eof|rules start X Y|start: X|X: Y a|Y: b",
+    "free loop": "tokens f=0 a eof|rules start A|start: A|A: A f|A: a",
+    "bound loop": "tokens a eof|rules start A|start: A|A: A A|A: a",
+    "no way out": "tokens eof|rules start A|start: A|A: A",
+    "own sum": "tokens a b=255 eof|rules start A B|start: A|A: a|A: B B a a|B: b*200",
+    "again": "tokens eof|rules start A B|start: A|A: B*40|B:",
+    "sixty": "tokens eof|rules start " + " ".join(f"r{k}" for k in range(1, 61)) + "|start: r1"
+    + "".join(f"|r{k}: r{k + 1}*2" for k in range(1, 60)) + "|r60:",
+}
+# What is said of the Rust on one grammar: its costs, or the sentence of that rule.
+SAID = [
+    ("g1", 0, {"returned": [0, 0]}),
+    ("g3", "costs", "out of time"),
+    ("g4", "costs", {"panicked": "Overflow occurred when calculating rule costs"}),
+    ("g5", "costs", {"returned": [65535, 65535]}),
+    ("g5-either", "costs", {"panicked": "Overflow occurred when calculating rule costs"}),
+    ("g6", "costs", {"returned": [1, 1]}),
+    ("g6", 1, {"returned": [1]}),
+    ("order", 1, {"returned": [0, 1, 0]}),
+    ("free loop", "costs", "out of time"),
+    ("bound loop", "costs", "out of time"),
+    ("no way out", "costs", "out of time"),
+    ("own sum", "costs", {"returned": [1, 1, 51000]}),
+    ("own sum", 1, {"panicked": "attempt to add with overflow"}),
+    ("again", "costs", {"returned": [0, 0, 0]}),
+    ("again", 1, "out of time"),
+    ("sixty", 1, "out of time"),
+]
 
 
 def grammar(rules, costs, bodies):
@@ -64,9 +97,12 @@ def random_grammar(draw, kind):
 
 def given(count, seed):
     """Pairs of a name and a well-formed grammar."""
-    for path in sorted((TOP / "examples").glob("*.txt")):
+    texts = {path.stem: path.read_text() for path in sorted((TOP / "examples").glob("*.txt"))}
+    for name, text in CASES.items():
+        texts[name] = text.replace("|", "\n")
+    for name, text in texts.items():
         try:
-            yield path.stem, plain.read(blocks.write(path.read_text()))
+            yield name, plain.read(blocks.write(text))
         except plain.Refused:
             pass
     draw = random.Random(seed)
@@ -261,12 +297,17 @@ def main(words):
     grammars = list(given(count, seed))
     for name, g in grammars:
         assert plain.refusal(g) == 0, name
-    assert {"g1", "g2", "g3", "g4", "g5", "g5-dear", "g5-either", "g6"} <= {name for name, _ in grammars}
+    assert {"g1", "g2", "g3", "g4", "g5", "g5-dear", "g5-either", "g6", *CASES} <= {name for name, _ in grammars}
     asked = "".join(line(g) + "\n" for _, g in grammars)
     done = subprocess.run([ORACLE], input=asked, stdout=subprocess.PIPE, text=True, check=True)
     check = Check()
-    for (name, g), answer in zip(grammars, done.stdout.splitlines(), strict=True):
-        check.grammar(name, g, json.loads(answer))
+    answers = [json.loads(answer) for answer in done.stdout.splitlines()]
+    for (name, g), rust in zip(grammars, answers, strict=True):
+        check.grammar(name, g, rust)
+        for said, what, outcome in SAID:
+            if said == name:
+                seen = rust["costs"] if what == "costs" else rust["sentences"][what]
+                check.same("what is said of the Rust on one grammar", seen, outcome, name, g)
     for kind in sorted(check.counts):
         print(f"{check.counts[kind]:6} {kind}")
     for kind, (name, g) in check.wrong.items():

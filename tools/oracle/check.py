@@ -34,13 +34,13 @@ ORACLE = TOP / "target" / "oracle" / "oracle"
 STOPPED = ("out of time", "out of memory")
 STEPS = 1_000_000  # so many steps of min_sentence fit well into the oracle's time
 
-# Smallest inputs of docs/DIFFERENCES.md that are no examples, in the form of bin/blocks.
+# Inputs of docs/DIFFERENCES.md that are no examples, in the form of bin/blocks; and document 01's sixty rules.
 CASES = {
     "order": "tokens a b eof|rules start X Y|start: X|X: Y a|Y: b",
     "free loop": "tokens f=0 a eof|rules start A|start: A|A: A f|A: a",
     "bound loop": "tokens a eof|rules start A|start: A|A: A A|A: a",
     "no way out": "tokens eof|rules start A|start: A|A: A",
-    "own sum": "tokens a b=255 eof|rules start A B|start: A|A: a|A: B B a a|B: b*200",
+    "own sum": "tokens a b=255 eof|rules start A B|start: A|A:|A: B B a|B: b*129",
     "again": "tokens eof|rules start A B|start: A|A: B*40|B:",
     "sixty": "tokens eof|rules start " + " ".join(f"r{k}" for k in range(1, 61)) + "|start: r1"
     + "".join(f"|r{k}: r{k + 1}*2" for k in range(1, 60)) + "|r60:",
@@ -58,7 +58,7 @@ SAID = [
     ("free loop", "costs", "out of time"),
     ("bound loop", "costs", "out of time"),
     ("no way out", "costs", "out of time"),
-    ("own sum", "costs", {"returned": [1, 1, 51000]}),
+    ("own sum", "costs", {"returned": [0, 0, 32895]}),
     ("own sum", 1, {"panicked": "attempt to add with overflow"}),
     ("again", "costs", {"returned": [0, 0, 0]}),
     ("again", 1, "out of time"),
@@ -224,16 +224,17 @@ class Check:
     def count(self, kind):
         self.counts[kind] += 1
 
-    def unexplained(self, kind, name, g):
+    def unexplained(self, kind, details, name, g):
+        """Counts it, and keeps the smallest grammar of its kind."""
         self.count(f"UNEXPLAINED {kind}")
-        if kind not in self.wrong or len(line(g)) < len(line(self.wrong[kind][1])):
-            self.wrong[kind] = name, g
+        if kind not in self.wrong or len(line(g)) < len(line(self.wrong[kind][-1])):
+            self.wrong[kind] = details, name, g
 
     def same(self, kind, rust, ours, name, g):
         if rust == ours:
             self.count(f"{kind} equal")
         else:
-            self.unexplained(f"{kind} differs: the Rust {rust}, here {ours}", name, g)
+            self.unexplained(f"{kind} differs", f"the Rust {rust}, here {ours}", name, g)
 
     def grammar(self, name, g, rust):
         first, empty, follow = plain.firsts(g), plain.empties(g), plain.follows(g, 1)
@@ -257,7 +258,7 @@ class Check:
         elif kind == "panicked" and dear(g, known, range(g.rules)):
             self.count(f"costs panicked: {'a sum above 65535' if reason is None else reason}")
         else:
-            self.unexplained(f"costs {kind}, reason {reason}", name, g)
+            self.unexplained(f"costs {kind}", f"reason not to return: {reason}", name, g)
 
     def sentence(self, name, g, r, rust, known, source):
         outcome = rust["sentences"][r]
@@ -268,7 +269,7 @@ class Check:
             if as_costs:
                 self.count("sentence not given: its costs are not")
             else:
-                self.unexplained(f"sentence {kind}, costs {costs}", name, g)
+                self.unexplained(f"sentence {kind}, costs {costs}", f"rule {r}", name, g)
         elif kind == "panicked" and dear(g, known, source.used(r)):
             self.count(f"sentence panicked: its own sum above 65535, costs {costs}")
         elif kind in STOPPED and source.steps(r) > STEPS:
@@ -276,18 +277,18 @@ class Check:
         elif kind == "returned":
             self.returned(name, g, r, outcome["returned"], source)
         else:
-            self.unexplained(f"sentence {kind}", name, g)
+            self.unexplained(f"sentence {kind}", f"rule {r}", name, g)
 
     def returned(self, name, g, r, rust, source):
         try:
             ours = plain.sentence(g, r)
         except plain.Refused as refused:
-            self.unexplained(f"sentence returned, here {refused}", name, g)
+            self.unexplained(f"sentence returned, here {refused}", f"rule {r}: {rust}", name, g)
             return
         if not source.place(r, plain.lengths(g)):
             self.same("sentence", rust, ours, name, g)
         elif rust == ours or rust != source.sentence(r):
-            self.unexplained(f"sentence of rule {r}, where the rest is taken again: {rust}", name, g)
+            self.unexplained("sentence other than taking the rest again gives", f"rule {r}: {rust}", name, g)
         else:
             self.count("sentence differs where a production used has such a place, as taking the rest again gives")
 
@@ -310,8 +311,8 @@ def main(words):
                 check.same("what is said of the Rust on one grammar", seen, outcome, name, g)
     for kind in sorted(check.counts):
         print(f"{check.counts[kind]:6} {kind}")
-    for kind, (name, g) in check.wrong.items():
-        print(f"unexplained: {kind}: {name}: {shown(g)}")
+    for kind, (details, name, g) in check.wrong.items():
+        print(f"unexplained: {kind}: {details}: {name}: {shown(g)}")
     wrong = sum(number for kind, number in check.counts.items() if kind.startswith("UNEXPLAINED"))
     print(f"{len(grammars)} grammars, {sum(g.rules for _, g in grammars)} rules, {wrong} unexplained")
     return 1 if wrong else 0

@@ -76,20 +76,19 @@ def grammar(rules, costs, bodies):
 
 def random_grammar(draw, kind):
     """A small well-formed grammar. Of kind 1 each rule has a production of tokens, and those cost something; of kind 2
-    a rule's productions hold only higher rules, and tokens may be dear; of kind 0 anything goes."""
+    a rule's productions are longer and hold only the next two rules, and tokens may be dear; of kind 0 anything goes."""
     rules, tokens = draw.randint(2, 6), draw.randint(1, 4)
     least, most = [(0, 3), (1, 3), (0, 255)][kind]
     bodies = [(0, [RULE + draw.randrange(1, rules)])]
     owners = list(range(1, rules))
     owners += [draw.randrange(1, rules) for _ in range(draw.randint(0, 10 - rules))]
     for k, r in enumerate(owners):
-        usable = [RULE + x for x in range(r + 1 if kind == 2 else 1, rules)]
+        usable = range(r + 1, min(r + 3, rules)) if kind == 2 else range(1, rules)
         if kind == 1 and k < rules - 1:
             usable = []
-        width = draw.randint(0, 9 if kind == 2 else 4)
         body = []
-        for _ in range(width):
-            body.append(draw.choice(usable) if usable and draw.random() < 0.6 else draw.randrange(tokens))
+        for _ in range(draw.randint(2, 9) if kind == 2 else draw.randint(0, 4)):
+            body.append(RULE + draw.choice(usable) if usable and draw.random() < 0.6 else draw.randrange(tokens))
         bodies.append((r, body))
     draw.shuffle(bodies)
     return grammar(rules, [draw.randint(least, most) for _ in range(tokens)] + [0], bodies)
@@ -182,7 +181,7 @@ class Source:
 
     def __init__(self, choice):
         self.choice = choice
-        self.known = {}
+        self.known, self.written = {}, {}
 
     def used(self, r):
         """The rules whose first choice is taken."""
@@ -208,12 +207,14 @@ class Source:
         return self.known[r, at]
 
     def sentence(self, r, at=0):
-        body = self.choice[r]
-        tokens = [s for s in body[at:] if s < RULE]
-        for k in reversed(range(at, len(body))):
-            if body[k] >= RULE:
-                tokens += self.sentence(body[k] - RULE) + self.sentence(r, k + 1)
-        return tokens
+        if (r, at) not in self.written:
+            body = self.choice[r]
+            tokens = [s for s in body[at:] if s < RULE]
+            for k in reversed(range(at, len(body))):
+                if body[k] >= RULE:
+                    tokens += self.sentence(body[k] - RULE) + self.sentence(r, k + 1)
+            self.written[r, at] = tokens
+        return self.written[r, at]
 
 
 class Check:

@@ -75,8 +75,8 @@ def grammar(rules, costs, bodies):
 
 
 def random_grammar(draw, kind):
-    """A small well-formed grammar. Of kind 1 each rule has a production of tokens, and those cost something; of kind 2
-    a rule's productions are longer and hold only the next two rules, and tokens may be dear; of kind 0 anything goes."""
+    """A small well-formed grammar. Of kind 0 anything goes; of kind 1 each rule has a production of tokens, and those
+    cost something; of kind 2 productions are longer and hold only the next two rules, and tokens may be dear."""
     rules, tokens = draw.randint(2, 6), draw.randint(1, 4)
     least, most = [(0, 3), (1, 3), (0, 255)][kind]
     bodies = [(0, [RULE + draw.randrange(1, rules)])]

@@ -129,9 +129,15 @@ fn answer(line: &str, flat: &Flat) -> String {
     let path = listed(rules().map(|a| listed(rules().map(|b| grm.has_path(a, b) as u8))));
     let costs = apart(line, &["costs".to_string()]);
     let sentences = listed((0..flat.rules).map(|r| apart(line, &["sentence".to_string(), r.to_string()])));
-    format!(
-        "{{\"first\":{first},\"empty\":{empty},\"follow\":{follow},\"path\":{path},\"costs\":{costs},\"sentences\":{sentences}}}"
-    )
+    let entries = [
+        ("first", first),
+        ("empty", empty),
+        ("follow", follow),
+        ("path", path),
+        ("costs", costs),
+        ("sentences", sentences),
+    ];
+    format!("{{{}}}", entries.map(|(name, entry)| format!("\"{name}\":{entry}")).join(","))
 }
 
 /// The outcome of this program with these words, in a process of its own.

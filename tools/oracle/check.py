@@ -301,7 +301,12 @@ def main(words):
         assert plain.refusal(g) == 0, name
     assert {"g1", "g2", "g3", "g4", "g5", "g5-dear", "g5-either", "g6", *CASES} <= {name for name, _ in grammars}
     asked = "".join(line(g) + "\n" for _, g in grammars)
-    done = subprocess.run([ORACLE], input=asked, stdout=subprocess.PIPE, text=True, check=True)
+    if not ORACLE.exists():
+        print("check: the oracle is not built: tools/oracle/build", file=sys.stderr)
+        return 2
+    done = subprocess.run([ORACLE], input=asked, stdout=subprocess.PIPE, text=True)
+    if done.returncode:
+        return 2
     check = Check()
     answers = [json.loads(answer) for answer in done.stdout.splitlines()]
     for (name, g), rust in zip(grammars, answers, strict=True):

@@ -1,0 +1,1 @@
+//! Stand-in for markmap.rs, of which nothing is asked for.

@@ -26,7 +26,7 @@ use Rattle.costs.proofs.Summing.{default-same}
 use Rattle.tables.specs.Call.{Stepped}
 use Rattle.tables.proofs.Stepping.{Stepping, round-start, round-held, round-on, round-end, settle-start, settle-held, settle-inv, settle-on, settle-end, settle-less}
 use Rattle.sentences.specs.Lent.{choicesOf, lengthsOf}
-use Rattle.sentences.specs.Measuring.{countOf, SymbolCounted, Countable, Choice, LengthReady, LengthBecame, Long, LengthBegun, LengthRounds, LengthSettled, LengthFillable, LengthsDefined, LengthsBy}
+use Rattle.sentences.specs.Measuring.{countOf, SymbolCounted, Countable, ChosenBy, LengthReady, LengthBecame, Long, LengthBegun, LengthRounds, LengthSettled, LengthFillable, LengthsDefined, LengthsBy}
 use Rattle.sentences.proofs.Counting.{length-entry}
 
 -- one rule's step
@@ -153,7 +153,7 @@ pub lengths-words : (a b : List ℕ) → length a ≡ length b → ((r : ℕ) �
 unfolding lengthsOf
 lengths-words a b e h = ext-getD 65537 a b e (λ r lr. h r)
 
-module _ (g : Flat) (w : WellFormed g) (choice : List ℕ) (h : Choice g choice) where
+module _ (g : Flat) (w : WellFormed g) (choice : List ℕ) (h : ChosenBy g choice) where
   abbrev pub lengthFilling : Filling (lengthVisit (denoted g) (choicesOf choice)) lengthsOf Long (g .rules)
   lengthFilling = record {
     Inv = LengthFits (denoted g) (price g) (h .table);

@@ -31,7 +31,7 @@ pub record Countable (symbols : List ℕ) (a e : ℕ) (lengths : List ℕ) : Typ
   pub symbol : (k : ℕ) → k < length symbols → SymbolCounted lengths (at symbols k)
 
 -- the choices are first choices by some COST table
-pub record Choice (g : Flat) (choice : List ℕ) : Type 0 where
+pub record ChosenBy (g : Flat) (choice : List ℕ) : Type 0 where
   pub room : length choice ≡ 512
   pub table : Costs
   pub chosen : Chosen (denoted g) (price g) table (choicesOf choice)
@@ -39,7 +39,7 @@ pub record Choice (g : Flat) (choice : List ℕ) : Type 0 where
 -- what a rule's step asks: a well-formed grammar, first choices, one of its rules, a number for each rule
 pub record LengthReady (g : Flat) (choice : List ℕ) (r : ℕ) (lengths : List ℕ) : Type 0 where
   pub well : WellFormed g
-  pub picks : Choice g choice
+  pub picks : ChosenBy g choice
   pub isRule : r < g .rules
   pub long : length lengths ≡ g .rules
 
@@ -55,7 +55,7 @@ Long a b = length b ≡ length a
 -- what a round asks: entries that are true, none outside the rules
 pub record LengthBegun (g : Flat) (choice lengths : List ℕ) : Type 0 where
   pub well : WellFormed g
-  pub picks : Choice g choice
+  pub picks : ChosenBy g choice
   pub long : length lengths ≡ g .rules
   pub held : LengthTrue (denoted g) (price g) (picks .table) (lengthsOf lengths)
 
@@ -70,7 +70,7 @@ LengthSettled g choice = Settles (lengthVisit (denoted g) (choicesOf choice)) le
 -- what a fill asks
 pub record LengthFillable (g : Flat) (choice lengths : List ℕ) : Type 0 where
   pub well : WellFormed g
-  pub picks : Choice g choice
+  pub picks : ChosenBy g choice
   pub long : length lengths ≡ g .rules
 
 -- each entry is the token count of its rule's sentence, 65536 if longer than 65535, 65537 if the rule is ungrounded or has no cost

@@ -98,7 +98,8 @@ def sizes(draw, rules=5, tokens=4):
 def anything(draw):
     """Nothing is shut out; tokens may be none."""
     rules, tokens = range(1, draw.randint(1, 5) + 1), range(draw.randint(0, 4))
-    bodies = [(r, any_body(draw, rules, tokens, 4, 0.6)) for r in rules] + more(draw, rules, tokens, draw.randint(0, 4), 4)
+    bodies = [(r, any_body(draw, rules, tokens, 4, 0.6)) for r in rules]
+    bodies += more(draw, rules, tokens, draw.randint(0, 4), 4)
     return shuffled(draw, len(rules) + 1, any_costs(draw, len(tokens)), bodies)
 
 
@@ -271,11 +272,12 @@ def single_file(draw):
 
 
 def wide(draw, rules, tokens):
-    """So many rules and tokens, eof and rule 0 counted, in a few productions more than the rules."""
+    """So many rules and tokens, eof and rule 0 counted. Each rule has a sentence, by rules of higher number; now and
+    then there are further productions of any rules."""
     usable = range(1, rules), range(tokens - 1)
-    bodies = [(r, any_body(draw, range(r, min(r + 3, rules)), usable[1], 3)) for r in usable[0]]
-    bodies += more(draw, *usable, draw.randint(0, rules // 4))
-    return shuffled(draw, rules, any_costs(draw, tokens - 1, 0, 255), bodies)
+    bodies = [(r, any_body(draw, range(r + 1, min(r + 20, rules)), usable[1], 3, 0.4)) for r in usable[0]]
+    bodies += more(draw, *usable, draw.choice((0, 0, 1, rules // 4)))
+    return shuffled(draw, rules, any_costs(draw, tokens - 1, draw.randint(0, 1)), bodies)
 
 
 def wide_tokens(draw):

@@ -6,21 +6,29 @@
 //! Standard output has one line of JSON for each:
 //!
 //!     {"first": [[token..]..], "empty": [0 or 1..], "follow": [[token..]..], "path": [[0 or 1..]..],
-//!      "costs": OUTCOME, "sentences": [OUTCOME..]}
+//!      "beyond": [OUTCOME..], "costs": OUTCOME, "sentences": [OUTCOME..]}
 //!
 //! with an entry for each rule, and an outcome of {"returned": [number..]}, {"panicked": "message"}, "out of time" or
-//! "out of memory". Costs and each sentence have a process of their own (`oracle costs`, `oracle sentence RULE`, the
-//! grammar on standard input), which is ended after the limits below.
+//! "out of memory". Beyond the numbers are production P, the path from rule R to 0 and that from 0 to R. Costs and
+//! sentences are asked in child processes. A child answers one question after the other until one of them runs out of
+//! the limits below; the next child goes on behind it.
 use std::fmt::{Debug, Display};
-use std::io::{self, BufRead, Write};
-use std::os::unix::process::ExitStatusExt;
-use std::process::{Command, Stdio, exit};
+use std::fs::File;
+use std::io::{self, BufRead, Read};
+use std::os::fd::FromRawFd;
+use std::panic::{AssertUnwindSafe, catch_unwind};
+use std::process::exit;
 
-use cfgrammar::yacc::{YaccGrammar, YaccKind, YaccOriginalActionKind};
+use cfgrammar::yacc::{SentenceGenerator, YaccGrammar, YaccKind, YaccOriginalActionKind};
 use cfgrammar::{PIdx, RIdx, Symbol, TIdx};
 
 const RULE: u16 = 32768;
-const MICROSECONDS: i64 = 200_000; // of the processor's time
+// A question has so much of the processor's time, and so much more for each symbol: costs that return may take some
+// 65536 rounds over all symbols. Where the costs have run out of time, a sentence that asks for them does so too, and
+// one that does not takes next to none: it has the third time.
+const MICROSECONDS: i64 = 8_000;
+const SYMBOL_MICROSECONDS: i64 = 200;
+const SENTENCE_MICROSECONDS: i64 = 4_000;
 const BYTES: u64 = 512 << 20;
 
 struct Flat {
@@ -119,7 +127,7 @@ fn held(len: usize, holds: impl Fn(u16) -> bool) -> String {
     listed((0..len as u16).filter(|&i| holds(i)))
 }
 
-fn answer(line: &str, flat: &Flat) -> String {
+fn answer(flat: &Flat) -> String {
     let (grm, tokens) = (build(flat), flat.costs.len());
     let (firsts, follows) = (grm.firsts(), grm.follows());
     let rules = || (0..flat.rules).map(RIdx);
@@ -127,39 +135,70 @@ fn answer(line: &str, flat: &Flat) -> String {
     let empty = listed(rules().map(|r| firsts.is_epsilon_set(r) as u8));
     let follow = listed(rules().map(|r| held(tokens, |t| follows.is_set(r, TIdx(t)))));
     let path = listed(rules().map(|a| listed(rules().map(|b| grm.has_path(a, b) as u8))));
-    let costs = apart(line, &["costs".to_string()]);
-    let sentences = listed((0..flat.rules).map(|r| apart(line, &["sentence".to_string(), r.to_string()])));
+    let mut outcomes = outcomes(&grm, flat);
+    let costs = outcomes.remove(0);
     let entries = [
         ("first", first),
         ("empty", empty),
         ("follow", follow),
         ("path", path),
+        ("beyond", listed(beyond(&grm, flat).into_iter())),
         ("costs", costs),
-        ("sentences", sentences),
+        ("sentences", listed(outcomes.into_iter())),
     ];
     format!("{{{}}}", entries.map(|(name, entry)| format!("\"{name}\":{entry}")).join(","))
 }
 
-/// The outcome of this program with these words, in a process of its own.
-fn apart(line: &str, words: &[String]) -> String {
-    run(line, words).unwrap_or_else(|error| fail(format!("{words:?}: {error}")))
+/// What the crate makes of the first numbers that are out of range.
+fn beyond(grm: &YaccGrammar<u16>, flat: &Flat) -> [String; 3] {
+    let (rule, prod) = (RIdx(flat.rules), PIdx(flat.owners.len() as u16));
+    let path = |from, to| vec![grm.has_path(from, to) as u16];
+    [caught(|| vec![grm.prod(prod).len() as u16]), caught(|| path(rule, RIdx(0))), caught(|| path(RIdx(0), rule))]
 }
 
-fn run(line: &str, words: &[String]) -> io::Result<String> {
-    let mut command = Command::new(std::env::current_exe()?);
-    let mut child = command.args(words).stdin(Stdio::piped()).stdout(Stdio::piped()).stderr(Stdio::piped()).spawn()?;
-    child.stdin.take().unwrap().write_all(line.as_bytes())?;
-    let output = child.wait_with_output()?;
-    let said = String::from_utf8_lossy(&output.stderr);
-    Ok(match (output.status.code(), output.status.signal()) {
-        (Some(0), _) => format!("{{\"returned\":{}}}", String::from_utf8_lossy(&output.stdout).trim()),
-        (Some(101), _) => format!("{{\"panicked\":{:?}}}", said.trim()),
-        (_, Some(SIGPROF)) => "\"out of time\"".to_string(),
-        (_, Some(SIGABRT)) if said.contains("memory allocation") => "\"out of memory\"".to_string(),
-        _ => fail(format!("{words:?}: {}: {said}", output.status)),
-    })
+/// What a question returns, or its panic.
+fn caught(question: impl FnOnce() -> Vec<u16>) -> String {
+    match catch_unwind(AssertUnwindSafe(question)) {
+        Ok(numbers) => format!("{{\"returned\":{}}}", listed(numbers.into_iter())),
+        Err(panic) => {
+            let text = panic.downcast_ref::<String>().map(String::as_str).or(panic.downcast_ref::<&str>().copied());
+            format!("{{\"panicked\":{:?}}}", text.unwrap_or("no message"))
+        }
+    }
 }
 
+/// The outcomes of the costs and of each rule's sentence.
+fn outcomes(grm: &YaccGrammar<u16>, flat: &Flat) -> Vec<String> {
+    let most = MICROSECONDS + SYMBOL_MICROSECONDS * flat.symbols.len() as i64;
+    let mut found: Vec<String> = Vec::new();
+    while found.len() <= flat.rules.into() {
+        let time = if found.first().is_some_and(|costs| costs == OUT_OF_TIME) { SENTENCE_MICROSECONDS } else { most };
+        let child = Child::start(|| answer_from(found.len(), time, grm, flat));
+        let (lines, ended) = child.finish();
+        found.extend(lines);
+        found.extend(ended);
+    }
+    found
+}
+
+/// Writes the outcome of each question from that number on: 0 asks for the costs, r + 1 for the sentence of rule r.
+fn answer_from(first: usize, time: i64, grm: &YaccGrammar<u16>, flat: &Flat) {
+    let sentences = grm.sentence_generator(|token| flat.costs[usize::from(token)]);
+    for question in first..=flat.rules.into() {
+        limit(time);
+        println!("{}", caught(|| asked(question, &sentences, flat)));
+    }
+}
+
+fn asked(question: usize, sentences: &SentenceGenerator<u16>, flat: &Flat) -> Vec<u16> {
+    match question.checked_sub(1) {
+        None => (0..flat.rules).map(|r| sentences.min_sentence_cost(RIdx(r))).collect(),
+        Some(r) => sentences.min_sentence(RIdx(r as u16)).into_iter().map(|token| token.as_storaget()).collect(),
+    }
+}
+
+const OUT_OF_TIME: &str = "\"out of time\"";
+const OUT_OF_MEMORY: &str = "\"out of memory\"";
 const SIGABRT: i32 = 6;
 const SIGPROF: i32 = 27;
 const ITIMER_PROF: i32 = 2;
@@ -169,39 +208,74 @@ const RLIMIT_AS: i32 = 9;
 unsafe extern "C" {
     fn setitimer(which: i32, new: *const [i64; 4], old: *mut [i64; 4]) -> i32;
     fn setrlimit(which: i32, limit: *const [u64; 2]) -> i32;
+    fn pipe(ends: *mut [i32; 2]) -> i32;
+    fn fork() -> i32;
+    fn dup2(from: i32, to: i32) -> i32;
+    fn close(end: i32) -> i32;
+    fn waitpid(id: i32, status: *mut i32, options: i32) -> i32;
+    fn _exit(status: i32) -> !;
+}
+
+fn worked(result: i32, what: &str) -> i32 {
+    if result < 0 {
+        fail(format!("{what}: {}", io::Error::last_os_error()));
+    }
+    result
 }
 
 /// From here on this process has so much time and memory left.
-fn limit() {
-    let failed = unsafe {
-        setrlimit(RLIMIT_AS, &[BYTES, BYTES]) | setitimer(ITIMER_PROF, &[0, 0, 0, MICROSECONDS], std::ptr::null_mut())
-    };
-    if failed != 0 {
-        fail("no limits can be set");
-    }
+fn limit(microseconds: i64) {
+    let time = [0, 0, microseconds / 1_000_000, microseconds % 1_000_000];
+    worked(unsafe { setrlimit(RLIMIT_AS, &[BYTES, BYTES]) }, "setrlimit");
+    worked(unsafe { setitimer(ITIMER_PROF, &time, std::ptr::null_mut()) }, "setitimer");
 }
 
-fn alone(words: &[&str], flat: &Flat) -> String {
-    std::panic::set_hook(Box::new(|info| eprintln!("{}", info.payload_as_str().unwrap_or("no message"))));
-    let grm = build(flat);
-    limit();
-    let sentences = grm.sentence_generator(|token| flat.costs[usize::from(token)]);
-    match words {
-        ["costs"] => listed((0..flat.rules).map(|r| sentences.min_sentence_cost(RIdx(r)))),
-        ["sentence", rule] => {
-            let rule = RIdx(rule.parse().unwrap_or_else(|_| fail("no rule")));
-            listed(sentences.min_sentence(rule).into_iter().map(|token| token.as_storaget()))
+/// A copy of this process, whose output and errors come here.
+struct Child {
+    id: i32,
+    said: File,
+}
+
+impl Child {
+    fn start(work: impl FnOnce()) -> Child {
+        let mut ends = [0; 2];
+        worked(unsafe { pipe(&mut ends) }, "pipe");
+        let id = worked(unsafe { fork() }, "fork");
+        if id == 0 {
+            for stream in [1, 2] {
+                worked(unsafe { dup2(ends[1], stream) }, "dup2");
+            }
+            work();
+            unsafe { _exit(0) }
         }
-        _ => fail("use: oracle, oracle costs, or oracle sentence RULE"),
+        unsafe { close(ends[1]) };
+        Child { id, said: unsafe { File::from_raw_fd(ends[0]) } }
+    }
+
+    /// The lines that it wrote, and the outcome of the question at which it was ended, if it was.
+    fn finish(mut self) -> (Vec<String>, Option<String>) {
+        let mut said = String::new();
+        self.said.read_to_string(&mut said).unwrap_or_else(|error| fail(error));
+        let mut status = 0;
+        worked(unsafe { waitpid(self.id, &mut status, 0) }, "waitpid");
+        let (lines, rest) = said.split_at(said.rfind('\n').map_or(0, |end| end + 1));
+        let mut lines: Vec<String> = lines.lines().map(String::from).collect();
+        match status & 0x7f {
+            0 if status == 0 => (lines, None),
+            SIGPROF if rest.is_empty() => (lines, Some(OUT_OF_TIME.to_string())),
+            SIGABRT if lines.pop_if(|line| line.starts_with("memory allocation of")).is_some() => {
+                (lines, Some(OUT_OF_MEMORY.to_string()))
+            }
+            _ => fail(format!("a child ended with status {status}: {said}")),
+        }
     }
 }
 
 fn main() {
-    let words: Vec<String> = std::env::args().skip(1).collect();
-    let words: Vec<&str> = words.iter().map(String::as_str).collect();
+    std::panic::set_hook(Box::new(|_| ()));
     for line in io::stdin().lock().lines() {
         let line = line.unwrap_or_else(|error| fail(error));
         let flat = Flat::read(&line).unwrap_or_else(|| fail("a line is no grammar"));
-        println!("{}", if words.is_empty() { answer(&line, &flat) } else { alone(&words, &flat) });
+        println!("{}", answer(&flat));
     }
 }

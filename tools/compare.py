@@ -38,7 +38,7 @@ LOADER.exec_module(blocks)
 
 ORACLE = [str(TOP / "target" / "oracle" / "oracle")]
 WORKERS = 2
-LARGE_EVERY = 2000  # so many grammars from one at the limits to the next: each takes seconds
+LARGE_EVERY = 1000  # so many random grammars from a large one to the next, which takes seconds
 STOPPED = ("out of time", "out of memory")
 STEPS = 100_000  # so many steps of min_sentence fit well into the oracle's time
 
@@ -405,16 +405,14 @@ def given(seed, worker):
         g = next(small, None)
         if g:
             yield "all small", f"small {worker + k * WORKERS}", g
-        at = worker + k * WORKERS
-        yield drawn(usual, at, seed)
-        if k % (LARGE_EVERY // 2) == LARGE_EVERY // 4:
-            yield drawn(list(grammars.large), at // LARGE_EVERY, seed)
+        yield drawn(usual[k % len(usual)], f"{seed} {worker} {k}")
+        if k % LARGE_EVERY == LARGE_EVERY // 10:
+            yield drawn(list(grammars.large)[(worker + k // LARGE_EVERY) % len(grammars.large)], f"{seed} {worker} {k}")
 
 
-def drawn(names, at, seed):
-    """The random grammar at that place, its shape taken in turn."""
-    shape = names[at % len(names)]
-    name = f"{shape} {seed} {at}"
+def drawn(shape, name):
+    """A random grammar of that shape."""
+    name = f"{shape} {name}"
     return shape, name, grammars.shapes[shape](random.Random(name))
 
 

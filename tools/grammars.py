@@ -265,7 +265,7 @@ def long_sentences(draw):
 
 def single_file(draw):
     """Rules in one chain of single rules, in any order of numbers: deep, and without a rule followed by another."""
-    rules = list(range(1, draw.choice((5, 40, 120)) + 1))
+    rules = list(range(1, draw.choice((5, 20, 70)) + 1))
     draw.shuffle(rules)
     bodies = [(r, [0] * draw.randint(0, 1) + [RULE + after]) for r, after in zip(rules, rules[1:])]
     return shuffled(draw, len(rules) + 1, [draw.randint(0, 2), 0], bodies + [(rules[-1], [0])], rules[0])
@@ -324,7 +324,7 @@ def one_limit(draw):
     return shuffled(draw, len(rules) + 1, any_costs(draw, len(tokens), 1), bodies)
 
 
-large = {shape.__name__: shape for shape in (most_rules, at_limits, one_limit)}
+large = {shape.__name__: shape for shape in (most_rules, one_limit, at_limits)}
 shapes = {shape.__name__: shape for shape in (
     anything, way_out, layered, left_recursion, right_recursion, middle_recursion, mutual_recursion, unit_cycles,
     empty_chains, no_sentence, unreached, free_tokens, equal_choices, dear, dear_flat, long_sentences, single_file,

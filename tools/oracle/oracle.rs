@@ -15,9 +15,10 @@
 use std::fmt::{Debug, Display};
 use std::fs::File;
 use std::io::{self, BufRead, Read};
-use std::os::fd::FromRawFd;
+use std::os::fd::{AsRawFd, FromRawFd};
 use std::panic::{AssertUnwindSafe, catch_unwind};
 use std::process::exit;
+use std::time::Duration;
 
 use cfgrammar::yacc::{SentenceGenerator, YaccGrammar, YaccKind, YaccOriginalActionKind};
 use cfgrammar::{PIdx, RIdx, Symbol, TIdx};
@@ -26,9 +27,9 @@ const RULE: u16 = 32768;
 // A question has so much of the processor's time, and so much more for each symbol: costs that return may take some
 // 65536 rounds over all symbols. Where the costs have run out of time, a sentence that asks for them does so too, and
 // one that does not takes next to none: it has the third time.
-const MICROSECONDS: i64 = 8_000;
-const SYMBOL_MICROSECONDS: i64 = 200;
-const SENTENCE_MICROSECONDS: i64 = 4_000;
+const COSTS: Duration = Duration::from_millis(4);
+const SYMBOL: Duration = Duration::from_micros(200);
+const SENTENCE: Duration = Duration::from_millis(2);
 const BYTES: u64 = 512 << 20;
 
 struct Flat {
@@ -169,23 +170,21 @@ fn caught(question: impl FnOnce() -> Vec<u16>) -> String {
 
 /// The outcomes of the costs and of each rule's sentence.
 fn outcomes(grm: &YaccGrammar<u16>, flat: &Flat) -> Vec<String> {
-    let most = MICROSECONDS + SYMBOL_MICROSECONDS * flat.symbols.len() as i64;
+    let most = COSTS + SYMBOL * flat.symbols.len() as u32;
     let mut found: Vec<String> = Vec::new();
     while found.len() <= flat.rules.into() {
-        let time = if found.first().is_some_and(|costs| costs == OUT_OF_TIME) { SENTENCE_MICROSECONDS } else { most };
-        let child = Child::start(|| answer_from(found.len(), time, grm, flat));
-        let (lines, ended) = child.finish();
+        let time = if found.first().is_some_and(|costs| costs == OUT_OF_TIME) { SENTENCE } else { most };
+        let (lines, ended) = Child::start(|| answer_from(found.len(), grm, flat)).finish(time);
         found.extend(lines);
-        found.extend(ended);
+        found.extend(ended.map(String::from));
     }
     found
 }
 
 /// Writes the outcome of each question from that number on: 0 asks for the costs, r + 1 for the sentence of rule r.
-fn answer_from(first: usize, time: i64, grm: &YaccGrammar<u16>, flat: &Flat) {
+fn answer_from(first: usize, grm: &YaccGrammar<u16>, flat: &Flat) {
     let sentences = grm.sentence_generator(|token| flat.costs[usize::from(token)]);
     for question in first..=flat.rules.into() {
-        limit(time);
         println!("{}", caught(|| asked(question, &sentences, flat)));
     }
 }
@@ -200,19 +199,22 @@ fn asked(question: usize, sentences: &SentenceGenerator<u16>, flat: &Flat) -> Ve
 const OUT_OF_TIME: &str = "\"out of time\"";
 const OUT_OF_MEMORY: &str = "\"out of memory\"";
 const SIGABRT: i32 = 6;
-const SIGPROF: i32 = 27;
-const ITIMER_PROF: i32 = 2;
+const SIGKILL: i32 = 9;
 const RLIMIT_AS: i32 = 9;
+const POLLIN: u64 = 1;
 
 // Linux's, with 64-bit numbers.
 unsafe extern "C" {
-    fn setitimer(which: i32, new: *const [i64; 4], old: *mut [i64; 4]) -> i32;
-    fn setrlimit(which: i32, limit: *const [u64; 2]) -> i32;
     fn pipe(ends: *mut [i32; 2]) -> i32;
     fn fork() -> i32;
     fn dup2(from: i32, to: i32) -> i32;
     fn close(end: i32) -> i32;
-    fn waitpid(id: i32, status: *mut i32, options: i32) -> i32;
+    fn setrlimit(which: i32, limit: *const [u64; 2]) -> i32;
+    fn poll(waited: *mut u64, count: u64, milliseconds: i32) -> i32;
+    fn clock_getcpuclockid(process: i32, clock: *mut i32) -> i32;
+    fn clock_gettime(clock: i32, time: *mut [i64; 2]) -> i32;
+    fn kill(process: i32, signal: i32) -> i32;
+    fn waitpid(process: i32, status: *mut i32, options: i32) -> i32;
     fn _exit(status: i32) -> !;
 }
 
@@ -223,16 +225,10 @@ fn worked(result: i32, what: &str) -> i32 {
     result
 }
 
-/// From here on this process has so much time and memory left.
-fn limit(microseconds: i64) {
-    let time = [0, 0, microseconds / 1_000_000, microseconds % 1_000_000];
-    worked(unsafe { setrlimit(RLIMIT_AS, &[BYTES, BYTES]) }, "setrlimit");
-    worked(unsafe { setitimer(ITIMER_PROF, &time, std::ptr::null_mut()) }, "setitimer");
-}
-
 /// A copy of this process, whose output and errors come here.
 struct Child {
-    id: i32,
+    process: i32,
+    clock: i32,
     said: File,
 }
 
@@ -240,34 +236,67 @@ impl Child {
     fn start(work: impl FnOnce()) -> Child {
         let mut ends = [0; 2];
         worked(unsafe { pipe(&mut ends) }, "pipe");
-        let id = worked(unsafe { fork() }, "fork");
-        if id == 0 {
-            for stream in [1, 2] {
-                worked(unsafe { dup2(ends[1], stream) }, "dup2");
-            }
+        let process = worked(unsafe { fork() }, "fork");
+        if process == 0 {
+            worked(unsafe { dup2(ends[1], 1) | dup2(ends[1], 2) }, "dup2");
+            worked(unsafe { setrlimit(RLIMIT_AS, &[BYTES, BYTES]) }, "setrlimit");
             work();
             unsafe { _exit(0) }
         }
         unsafe { close(ends[1]) };
-        Child { id, said: unsafe { File::from_raw_fd(ends[0]) } }
+        let mut clock = 0;
+        worked(-unsafe { clock_getcpuclockid(process, &mut clock) }, "clock_getcpuclockid");
+        Child { process, clock, said: unsafe { File::from_raw_fd(ends[0]) } }
     }
 
-    /// The lines that it wrote, and the outcome of the question at which it was ended, if it was.
-    fn finish(mut self) -> (Vec<String>, Option<String>) {
-        let mut said = String::new();
-        self.said.read_to_string(&mut said).unwrap_or_else(|error| fail(error));
-        let mut status = 0;
-        worked(unsafe { waitpid(self.id, &mut status, 0) }, "waitpid");
-        let (lines, rest) = said.split_at(said.rfind('\n').map_or(0, |end| end + 1));
-        let mut lines: Vec<String> = lines.lines().map(String::from).collect();
-        match status & 0x7f {
-            0 if status == 0 => (lines, None),
-            SIGPROF if rest.is_empty() => (lines, Some(OUT_OF_TIME.to_string())),
-            SIGABRT if lines.pop_if(|line| line.starts_with("memory allocation of")).is_some() => {
-                (lines, Some(OUT_OF_MEMORY.to_string()))
+    /// The processor's time that it has had.
+    fn time(&self) -> Duration {
+        let mut time = [0; 2];
+        worked(unsafe { clock_gettime(self.clock, &mut time) }, "clock_gettime");
+        Duration::new(time[0] as u64, time[1] as u32)
+    }
+
+    /// Whether it writes, or ends, within a millisecond.
+    fn writes(&self) -> bool {
+        let mut waited = self.said.as_raw_fd() as u64 | POLLIN << 32;
+        worked(unsafe { poll(&mut waited, 1, 1) }, "poll") > 0
+    }
+
+    /// All that it writes until it ends, or until one line has taken more than that time: then it is ended.
+    fn read(&mut self, limit: Duration) -> String {
+        let (mut said, mut part, mut since) = (Vec::new(), vec![0; 1 << 16], Duration::ZERO);
+        loop {
+            if !self.writes() {
+                if self.time() > since + limit {
+                    worked(unsafe { kill(self.process, SIGKILL) }, "kill");
+                }
+                continue;
             }
-            _ => fail(format!("a child ended with status {status}: {said}")),
+            let count = self.said.read(&mut part).unwrap_or_else(|error| fail(error));
+            if count == 0 {
+                return String::from_utf8_lossy(&said).into_owned();
+            }
+            if part[..count].contains(&b'\n') {
+                since = self.time();
+            }
+            said.extend_from_slice(&part[..count]);
         }
+    }
+
+    /// The whole lines that it writes, and the outcome of the question at which it was ended, if it was.
+    fn finish(mut self, limit: Duration) -> (Vec<String>, Option<&'static str>) {
+        let said = self.read(limit);
+        let mut status = 0;
+        worked(unsafe { waitpid(self.process, &mut status, 0) }, "waitpid");
+        let whole = said.rfind('\n').map_or(0, |end| end + 1);
+        let mut lines: Vec<String> = said[..whole].lines().map(String::from).collect();
+        let ended = match status & 0x7f {
+            0 if status == 0 => None,
+            SIGKILL => Some(OUT_OF_TIME),
+            SIGABRT if lines.pop_if(|line| line.starts_with("memory allocation of")).is_some() => Some(OUT_OF_MEMORY),
+            _ => fail(format!("a child ended with status {status}: {said}")),
+        };
+        (lines, ended)
     }
 }
 

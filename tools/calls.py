@@ -11,8 +11,8 @@ LISTS = 4096, 4097, 16384, 512  # the lengths of the lists that the file reader 
 
 
 class Call(NamedTuple):
-    kinds: str  # of the parameters behind the grammar: n number; lists of b bytes, h 16-bit numbers, w words
-    refusals: tuple  # its own; a call on a grammar gives 1 to 6 too
+    takes: str  # what it takes behind the grammar; row, marks and entries are lent words, room is lent numbers
+    refusals: tuple  # its own; besides, each gives 1 to 6
     values: int  # the values of an answer
     make: object
 
@@ -226,25 +226,25 @@ def read_blocks(file, *lists):
 # In the order of the driver's table (tools/driver/calls.c).
 CALLS = {
     "check": Call("", (), 1, check),
-    "production": Call("n", (11,), 2, production),
-    "mark": Call("wnn", (7, 9, 10), 1, mark),
-    "rule_mark": Call("wn", (7, 9), 1, rule_mark),
-    "first_clear": Call("ww", (7,), 1, first_clear),
-    "first_visit": Call("nww", (7, 11), 1, first_visit),
-    "first_fill": Call("ww", (7,), 1, first_fill),
-    "has_path": Call("nn", (9,), 1, has_path),
-    "productive_clear": Call("w", (7,), 1, productive_clear),
-    "productive_visit": Call("nw", (7, 11), 1, productive_visit),
-    "productive_fill": Call("w", (7,), 1, productive_fill),
-    "cost_clear": Call("w", (7,), 1, cost_clear),
-    "cost_visit": Call("nw", (7, 11), 1, cost_visit),
-    "cost_fill": Call("w", (7,), 1, cost_fill),
-    "min_sentence_cost": Call("nww", (7, 9, 12, 13), 1, min_sentence_cost),
-    "follow_clear": Call("w", (7,), 1, follow_clear),
-    "follow_visit": Call("nnwww", (7, 8, 11), 1, follow_visit),
-    "follow_fill": Call("nwww", (7, 8), 1, follow_fill),
-    "min_sentence": Call("nwwwh", (7, 9, 12, 13, 14, 15), 1, min_sentence),
-    "read_blocks": Call("bhhhb", (7, 20, 21, 22, 23), 4, read_blocks),
+    "production": Call("prod", (11,), 2, production),
+    "mark": Call("marks rule token", (7, 9, 10), 1, mark),
+    "rule_mark": Call("row rule", (7, 9), 1, rule_mark),
+    "first_clear": Call("marks row", (7,), 1, first_clear),
+    "first_visit": Call("prod marks row", (7, 11), 1, first_visit),
+    "first_fill": Call("marks row", (7,), 1, first_fill),
+    "has_path": Call("rule rule", (9,), 1, has_path),
+    "productive_clear": Call("row", (7,), 1, productive_clear),
+    "productive_visit": Call("prod row", (7, 11), 1, productive_visit),
+    "productive_fill": Call("row", (7,), 1, productive_fill),
+    "cost_clear": Call("entries", (7,), 1, cost_clear),
+    "cost_visit": Call("prod entries", (7, 11), 1, cost_visit),
+    "cost_fill": Call("entries", (7,), 1, cost_fill),
+    "min_sentence_cost": Call("rule row entries", (7, 9, 12, 13), 1, min_sentence_cost),
+    "follow_clear": Call("marks", (7,), 1, follow_clear),
+    "follow_visit": Call("mode prod marks marks row", (7, 8, 11), 1, follow_visit),
+    "follow_fill": Call("mode marks marks row", (7, 8), 1, follow_fill),
+    "min_sentence": Call("rule row entries entries room", (7, 9, 12, 13, 14, 15), 1, min_sentence),
+    "read_blocks": Call("file and four lists, no grammar", (7, 20, 21, 22, 23), 4, read_blocks),
 }
 
 

@@ -48,6 +48,7 @@ CASES = {
     "free loop": "tokens f=0 a eof|rules start A|start: A|A: A f|A: a",
     "bound loop": "tokens a eof|rules start A|start: A|A: A A|A: a",
     "no way out": "tokens eof|rules start A|start: A|A: A",
+    "one without": "tokens a eof|rules start A B|start: A|A: a|B: B",
     "own sum": "tokens a b=255 eof|rules start A B|start: A|A:|A: B B a|B: b*129",
     "again": "tokens eof|rules start A B|start: A|A: B*40|B:",
     "sixty": "tokens eof|rules start " + " ".join(f"r{k}" for k in range(1, 61)) + "|start: r1"
@@ -85,6 +86,7 @@ SAID = [
     ("bound loop", "costs", LATE, "costs 1", returned(1)),
     ("bound loop", "sentences 1", LATE, "sentences 1", returned(0)),
     ("no way out", "costs", LATE, "costs 1", refused(12)),
+    ("one without", "costs", LATE, "costs", [returned(1), returned(1), refused(12)]),
     ("own sum", "costs", returned(0, 0, 32895), "costs 2", returned(32895)),
     ("own sum", "sentences 1", {"panicked": "attempt to add with overflow"}, "sentences 1", returned()),
     ("again", "costs", returned(0, 0, 0), "costs 1", returned(0)),
@@ -328,6 +330,21 @@ class Comparer(Comparison):
     def tables(self):
         for kind, name in ("FIRST", "first"), ("EMPTY", "empty"), ("FOLLOW, mode 1", "follow"), ("paths", "path"):
             self.same(kind, self.rust[name], self.ours[name])
+        self.corrected()
+        self.beyond()
+
+    def corrected(self):
+        """FOLLOW of mode 2, which the Rust has not."""
+        due = [sorted(held) for held in plain.follows(self.g, 2)]
+        if self.ours["corrected"] != due:
+            self.unexplained("FOLLOW, mode 2: ours is not document 01's", f"{self.ours['corrected']} and not {due}")
+        elif due == self.rust["follow"]:
+            self.count("FOLLOW, mode 2: the same")
+        else:
+            self.count("FOLLOW, mode 2: more, since the Rust looks one symbol ahead")
+
+    def beyond(self):
+        """Production P, the path from rule R to 0 and that from 0 to R."""
         kinds = [kind_of(outcome) for outcome in self.rust["beyond"][:2]] + self.rust["beyond"][2:]
         if (kinds, self.ours["beyond"]) == (["panicked", "panicked", returned(0)], [refused(n) for n in (11, 9, 9)]):
             self.count("numbers out of range: as listed")

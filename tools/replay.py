@@ -4,7 +4,7 @@
     tools/replay.py          writes crates/replay/stdin, the grammars, and crates/replay/stdout, the answers
 
 The sample is the well-formed examples and cases of tools/compare.py, and of each shape of tools/grammars.py the first
-EACH from one seed whose lines take at most BYTES bytes. A rule's line has what the Rust gave: EMPTY, FIRST, FOLLOW, the
+so many from one seed whose lines take no more bytes than SIZES says; at_limits and most_rules are too long. A rule's line has what the Rust gave: EMPTY, FIRST, FOLLOW, the
 rules to which there is a path; its cost, if the costs came back; and its sentence, if that came back too and no
 production used has the place at which document 01 says that the Rust's differs (only this is asked of tools/plain.py,
 and no answer is taken from it). What did not come back stays empty, and `stdin` says of each rule which it is.
@@ -20,7 +20,8 @@ import grammars
 import plain
 
 FOLDER = compare.TOP / "crates" / "replay"
-EACH, BYTES, SEED = 16, 2000, 1
+SEED = 1
+SIZES = {shape: (2000, 16) for shape in grammars.shapes if shape not in grammars.large} | {"one_limit": (20000, 2)}
 HEADING = "rule,empty,first,follow,paths,cost,sentence\n"
 
 
@@ -61,15 +62,17 @@ def answers(sample):
         yield f"{grammars.line(g)} {numbers(asks)}\n", "".join(lines(asks, rust))
 
 
-def short(pairs):
-    return [pair for pair in pairs if len(pair[0]) + len(pair[1]) <= BYTES][:EACH]
+def short(name, most, count):
+    """So many of a shape whose lines take at most so many bytes."""
+    draw = random.Random(f"{SEED} {name}")
+    pairs = answers([grammars.shapes[name](draw) for _ in range(2 * count)])
+    return [pair for pair in pairs if len(pair[0]) + len(pair[1]) <= most][:count]
 
 
 def main():
     pairs = list(answers([g for _, g in compare.named() if plain.refusal(g) == 0]))
-    for name, shape in grammars.shapes.items():
-        draw = random.Random(f"{SEED} {name}")
-        pairs += short(answers([shape(draw) for _ in range(2 * EACH)]))
+    for name, (most, count) in SIZES.items():
+        pairs += short(name, most, count)
     (FOLDER / "stdin").write_text(f"{len(pairs)}\n" + "".join(given for given, _ in pairs))
     (FOLDER / "stdout").write_text(HEADING + "".join(answer for _, answer in pairs))
     print(f"{len(pairs)} grammars")

@@ -67,6 +67,13 @@ fn at_most(n: u16, most: u16) -> usize
     most as usize
 }
 
+fn narrow(n: usize) -> u16 {
+    if n < 65536 {
+        return n as u16;
+    }
+    65535
+}
+
 fn read_numbers(list: &mut [u16]) {
     let mut i: usize = 0;
     while i < list.len() {
@@ -78,7 +85,7 @@ fn read_numbers(list: &mut [u16]) {
 fn read_bytes(list: &mut [u8]) {
     let mut i: usize = 0;
     while i < list.len() {
-        list[i] = number() as u8;
+        list[i] = (number() % 256) as u8;
         i += 1;
     }
 }
@@ -110,7 +117,7 @@ fn say_marks(
     table: &[u32],
     rule: u16,
 ) {
-    let tokens = costs.len() as u16;
+    let tokens = narrow(costs.len());
     let mut gap = false;
     let mut t: u16 = 0;
     while t < tokens {
@@ -169,9 +176,13 @@ fn say_cost(
     symbols: &[u16],
     costs: &[u8],
     rule: u16,
+    asked: u16,
     productive: &mut [u32],
     cost: &mut [u32],
 ) {
+    if asked < 1 {
+        return;
+    }
     match costs::min_sentence_cost(
         rules,
         owners,
@@ -213,11 +224,15 @@ fn say_sentence(
     symbols: &[u16],
     costs: &[u8],
     rule: u16,
+    asked: u16,
     productive: &mut [u32],
     cost: &mut [u32],
     lengths: &mut [u32],
     out: &mut [u16],
 ) {
+    if asked < 2 {
+        return;
+    }
     match sentences::min_sentence(
         rules,
         owners,
@@ -237,6 +252,15 @@ fn say_sentence(
             say_refused(n);
         }
     }
+}
+
+// What is asked of the rule.
+fn asked_of(rule: u16, asked: &[u16]) -> u16 {
+    let r = rule as usize;
+    if r < asked.len() {
+        return asked[r];
+    }
+    0
 }
 
 // A rule's line: its number, EMPTY, FIRST, FOLLOW, paths, and where they are asked for its cost and its sentence.
@@ -266,33 +290,31 @@ fn say_rule(
     say(b",");
     say_paths(rules, owners, starts, symbols, costs, rule);
     say(b",");
-    if asked > 0 {
-        say_cost(
-            rules,
-            owners,
-            starts,
-            symbols,
-            costs,
-            rule,
-            productive,
-            cost,
-        );
-    }
+    say_cost(
+        rules,
+        owners,
+        starts,
+        symbols,
+        costs,
+        rule,
+        asked,
+        productive,
+        cost,
+    );
     say(b",");
-    if asked > 1 {
-        say_sentence(
-            rules,
-            owners,
-            starts,
-            symbols,
-            costs,
-            rule,
-            productive,
-            cost,
-            lengths,
-            out,
-        );
-    }
+    say_sentence(
+        rules,
+        owners,
+        starts,
+        symbols,
+        costs,
+        rule,
+        asked,
+        productive,
+        cost,
+        lengths,
+        out,
+    );
     say(b"\n");
 }
 
@@ -311,16 +333,16 @@ fn say_rules(
     lengths: &mut [u32],
 ) {
     let mut out: [u16; 1024] = [0; 1024];
-    let mut i: usize = 0;
-    while i < asked.len() {
+    let mut rule: u16 = 0;
+    while rule < rules {
         say_rule(
             rules,
             owners,
             starts,
             symbols,
             costs,
-            i as u16,
-            asked[i],
+            rule,
+            asked_of(rule, asked),
             empty,
             first,
             follow,
@@ -329,7 +351,7 @@ fn say_rules(
             lengths,
             &mut out,
         );
-        i += 1;
+        rule += 1;
     }
 }
 
@@ -398,7 +420,7 @@ fn replay(owners: &[u16], starts: &[u16], symbols: &[u16], costs: &[u8], asked: 
     let mut cost = [0; 512];
     let mut lengths = [0; 512];
     fill_and_say(
-        n as u16,
+        narrow(n),
         owners,
         starts,
         symbols,
@@ -431,11 +453,18 @@ fn read_and_replay(
     replay(owners, starts, symbols, costs, asked);
 }
 
+fn one_more(n: usize) -> usize
+    requires { ⌜ n ≤ 4096 ⌝ }
+    ensures { λ r. ⌜ r ≤ 4097 ⌝ }
+{
+    n + 1
+}
+
 fn next() {
     let r = at_most(number(), 512);
     let t = at_most(number(), 512);
     let p = at_most(number(), 4096);
-    let e = p + 1;
+    let e = one_more(p);
     let n = at_most(number(), 16384);
     let mut owners: [u16; 4096] = [0; 4096];
     let mut starts: [u16; 4097] = [0; 4097];

@@ -11,6 +11,8 @@
 //! with an entry for each rule, and an outcome of {"returned": [number..]}, {"panicked": "message"}, "out of time" or
 //! "out of memory". Costs and each sentence have a process of their own (`oracle costs`, `oracle sentence RULE`, the
 //! grammar on standard input), which is ended after the limits below.
+mod text;
+
 use std::fmt::{Debug, Display};
 use std::io::{self, BufRead, Write};
 use std::os::unix::process::ExitStatusExt;
@@ -53,22 +55,10 @@ impl Flat {
         [others, own].concat()
     }
 
-    /// The text that the parser's stand-in reads. Rule 0 and eof are not in it: the crate adds them.
+    /// The text that the parser's stand-in reads.
     fn text(&self) -> String {
-        let mut lines: Vec<String> = (0..self.costs.len() - 1).map(|t| format!("token t{t}")).collect();
-        lines.extend((1..self.rules).map(|r| format!("rule r{r}")));
-        for prod in self.order() {
-            if self.owners[prod] == 0 {
-                lines.push(format!("start r{}", self.body(prod)[0] - RULE));
-                continue;
-            }
-            let names = self.body(prod).iter().map(|&s| match s {
-                RULE.. => format!(" rule:r{}", s - RULE),
-                _ => format!(" token:t{s}"),
-            });
-            lines.push(format!("prod r{}{}", self.owners[prod], names.collect::<String>()));
-        }
-        lines.join("\n")
+        let prods = self.order().into_iter().map(|prod| (self.owners[prod], self.body(prod)));
+        text::text(self.rules, self.costs.len(), prods)
     }
 }
 

@@ -25,9 +25,9 @@ pub fn all() -> Vec<Given> {
         example("g1"),
         climate,
         large,
-        random("random", 1, 50, 0),
-        random("random, another seed", 2, 50, 0),
-        random("random, rules above all, a quarter empty", 3, 10, 25),
+        random("random", Shape { seed: 1, tokens: 50, empty: 0, closed: false }),
+        random("random, a token ends each", Shape { seed: 2, tokens: 50, empty: 0, closed: true }),
+        random("random, mostly rules, a quarter empty", Shape { seed: 3, tokens: 10, empty: 25, closed: false }),
         rising_chain(),
         falling_chain(),
         empty(),
@@ -90,19 +90,27 @@ impl Draw {
     }
 }
 
-/// A grammar at the limits: of a hundred symbols so many are tokens, and of a hundred rules so many have an empty
-/// production. Each rule has a production of tokens alone and each production with a rule ends with a token, so that
-/// costs come to an end. Tokens cost 1 to 255.
-fn random(name: &'static str, seed: u64, tokens: u64, empty: u64) -> Given {
-    let mut draw = Draw(seed * 0x9e37_79b9_7f4a_7c15);
+/// Of a hundred symbols so many are tokens, and of a hundred rules so many have an empty production. In a closed grammar
+/// a token ends each production that is not empty, so that the Rust's costs come to an end.
+struct Shape {
+    seed: u64,
+    tokens: u64,
+    empty: u64,
+    closed: bool,
+}
+
+/// A grammar at the limits. Each rule has a production of one token. Tokens cost 1 to 255.
+fn random(name: &'static str, shape: Shape) -> Given {
+    let mut draw = Draw(shape.seed * 0x9e37_79b9_7f4a_7c15);
     let others = u64::from(RULES) - 1;
     let mut prods: Vec<(u16, Vec<u16>)> = (1..RULES).map(|r| (r, vec![draw.token()])).collect();
-    prods.extend((1..RULES).filter(|_| draw.below(100) < empty).map(|r| (r, vec![])).collect::<Vec<_>>());
-    let mut left = SYMBOLS - 1 - prods.iter().map(|(_, body)| body.len()).sum::<usize>();
+    let empty: Vec<u16> = (1..RULES).filter(|_| draw.below(100) < shape.empty).collect();
+    prods.extend(empty.into_iter().map(|r| (r, vec![])));
+    let mut left = SYMBOLS - usize::from(RULES);
     while prods.len() < PRODS - 1 {
         let len = left / (PRODS - 1 - prods.len());
-        let mut body: Vec<u16> = (1..len).map(|_| draw.symbol(tokens)).collect();
-        body.push(draw.token());
+        let mut body: Vec<u16> = (1..len).map(|_| draw.symbol(shape.tokens)).collect();
+        body.push(draw.symbol(if shape.closed { 100 } else { shape.tokens }));
         prods.push((1 + draw.below(others) as u16, body));
         left -= len;
     }

@@ -87,12 +87,12 @@ impl Refusal {
     /// What is wrong, for a person.
     fn sentence(self) -> &'static str {
         match self {
-            Sizes => "the grammar is too small or too large: it needs 2 to 512 rules, 1 to 512 tokens, 2 to 4096 productions and 1 to 16384 symbols",
-            Starts => "the list of where productions start must have one entry more than there are productions and rise from 0 to the number of symbols",
+            Sizes => "a grammar has 2 to 512 rules, 1 to 512 tokens, 2 to 4096 productions and 1 to 16384 symbols",
+            Starts => "the starts must be one more than the productions and rise from 0 to the number of symbols",
             Owner => "a production belongs to a rule that is not there",
             NoProduction => "a rule has no production",
             Symbol => "a production holds a symbol that is neither a token before eof nor a rule",
-            Start => "the start, rule 0, must have one production that is a single rule, and may stand in no production",
+            Start => "the start, rule 0, must have one production, of a single rule, and stand in no production",
             TableLength => "a table is not as long as this grammar needs it",
             Mode => "FOLLOW has the modes 1 (the crate's) and 2 (corrected) only",
             RuleNumber => "the grammar has no rule with this number",
@@ -105,7 +105,7 @@ impl Refusal {
             FileLength => "the file is empty, is not made of whole blocks of 512 bytes, or has more than 98",
             BlockCheck => "a block of the file is damaged: its check does not fit its bytes",
             BlockNumber => "a block of the file is out of place: its number is not its position",
-            BlocksDue => "the file has too few or too many blocks for its grammar, or something behind the grammar's end",
+            BlocksDue => "the file has too few or too many blocks for its grammar, or something behind its end",
         }
     }
 }

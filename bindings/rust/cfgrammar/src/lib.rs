@@ -1,8 +1,8 @@
 //! Makes a [`Grammar`] from cfgrammar's `YaccGrammar`, through its public methods.
 //!
-//! No number changes: what document 01 asks for is what cfgrammar has. It makes the start rule 0 and eof the last token,
-//! and gives each rule's productions rising numbers. The start's production comes after those of the text, and document
-//! 01 takes it anywhere.
+//! No number changes, since cfgrammar's numbering already is what document 01 asks for: the start is rule 0, eof is the
+//! last token, and each rule's productions have rising numbers. The start's production comes after those of the text;
+//! document 01 takes it anywhere.
 #![deny(missing_docs, unsafe_code)]
 
 use boltmarrow::{Grammar, Refusal};

@@ -31,6 +31,20 @@ fn rules_tokens_and_empty_productions() {
     assert_eq!(flatten(&yacc(&[names, prods].concat()), costs).map(Grammar::into_tables), Ok(tables));
 }
 
+/// The change that bindings/rust/README.md shows.
+#[test]
+fn the_tools_change_keeps_the_field_comma() -> Result<(), Refusal> {
+    let names = "token digits\ntoken ,\ntoken unit\nrule Row\nrule Num\nrule Unit\nstart Row\n";
+    let prods = "prod Row rule:Num rule:Unit token:,\nprod Num token:digits\nprod Unit token:unit\nprod Unit";
+    let grm = yacc(&[names, prods].concat());
+    let flat = flatten(&grm, |_| 1)?;
+    let follows = flat.follows(Mode::Corrected);
+    let (num, comma) = (grm.rule_idx("Num").unwrap(), grm.token_idx(",").unwrap());
+    assert!(!grm.follows().is_set(num, comma));
+    assert!(follows.is_set(rule(num), token(comma))?);
+    Ok(())
+}
+
 #[test]
 fn wider_numbers_flatten_to_the_same() {
     let text = "token a\nrule X\nstart X\nprod X token:a rule:X\nprod X";

@@ -1,11 +1,17 @@
-# Rust, for scripts of bin/ to source; they define `die`. Where there is none its packages are installed.
-if ! command -v cargo >/dev/null 2>&1 || ! command -v rustc >/dev/null 2>&1; then
-    command -v apt-get >/dev/null 2>&1 || die 'there is no Rust (rustc and cargo), and no apt-get to install it'
+# Rust, for scripts of bin/ to source at the repository's top; they define `die`. What is missing of it is installed by
+# the names of Debian's packages.
+missing=
+command -v rustc >/dev/null 2>&1 || missing="$missing rustc"
+command -v cargo >/dev/null 2>&1 || missing="$missing cargo"
+command -v cc >/dev/null 2>&1 || missing="$missing gcc libc6-dev"
+if [ -n "$missing" ]; then
+    command -v apt-get >/dev/null 2>&1 || die "there is no$missing, and no apt-get to install it"
     mkdir -p target
-    { apt-get update && apt-get install -y --no-install-recommends rustc cargo gcc libc6-dev; } \
+    # shellcheck disable=SC2086 # the packages are words
+    { apt-get update && apt-get install -y --no-install-recommends $missing; } \
         </dev/null >target/rust-install.log 2>&1 || {
         tail -n 5 target/rust-install.log >&2
-        die 'Rust (rustc and cargo) could not be installed: target/rust-install.log has the whole'
+        die "not installed:$missing: target/rust-install.log has the whole"
     }
 fi
 

@@ -226,14 +226,18 @@ def sentence_cost(g, r):
     return cost
 
 
-def first_choices(g):
-    """The lowest-numbered production whose cost equals the rule's, of each rule that has a cost."""
-    known = {r: cost for r, cost in enumerate(costs(g)) if cost <= MOST}
+def cheapest_first(g, known):
+    """The lowest-numbered production whose cost equals the rule's, of each rule whose cost is known."""
     choice = {}
     for r, body in g.productions():
         if r in known and r not in choice and price(g, body, known) == known[r]:
             choice[r] = body
     return choice
+
+
+def first_choices(g):
+    """The first choice of each rule that has a cost."""
+    return cheapest_first(g, {r: cost for r, cost in enumerate(costs(g)) if cost <= MOST})
 
 
 def grounded(choice):
@@ -260,6 +264,13 @@ def lengths(g):
     return [min(known[r], MOST + 1) if r in known else MOST + 2 for r in range(g.rules)]
 
 
+def expanded(r, choice, known):
+    """The tokens of a rule's sentence, from first choices and the lengths of sentences."""
+    if known[r] == 0:
+        return []
+    return [t for s in choice[r] for t in (expanded(s - RULE, choice, known) if s >= RULE else [s])]
+
+
 def sentence(g, r, room=MOST):
     """The tokens of a rule's sentence, for an output of that room."""
     sentence_cost(g, r)
@@ -269,13 +280,7 @@ def sentence(g, r, room=MOST):
         raise Refused(14)
     if known[r] > min(MOST, room):
         raise Refused(15)
-
-    def expanded(rule):
-        if known[rule] == 0:
-            return []
-        return [t for s in choice[rule] for t in (expanded(s - RULE) if s >= RULE else [s])]
-
-    return expanded(r)
+    return expanded(r, choice, known)
 
 
 def cleared(g):

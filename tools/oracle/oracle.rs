@@ -6,23 +6,32 @@
 //! Standard output has one line of JSON for each:
 //!
 //!     {"first": [[token..]..], "empty": [0 or 1..], "follow": [[token..]..], "path": [[0 or 1..]..],
-//!      "costs": OUTCOME, "sentences": [OUTCOME..]}
+//!      "beyond": [OUTCOME..], "costs": OUTCOME, "sentences": [OUTCOME..]}
 //!
 //! with an entry for each rule, and an outcome of {"returned": [number..]}, {"panicked": "message"}, "out of time" or
-//! "out of memory". Costs and each sentence have a process of their own (`oracle costs`, `oracle sentence RULE`, the
-//! grammar on standard input), which is ended after the limits below.
+//! "out of memory". Beyond the numbers are production P, the path from rule R to 0 and that from 0 to R. Costs and
+//! sentences are asked in child processes. A child answers one question after the other until one of them runs out of
+//! the limits below; the next child goes on behind it.
 mod text;
 
 use std::fmt::{Debug, Display};
-use std::io::{self, BufRead, Write};
-use std::os::unix::process::ExitStatusExt;
-use std::process::{Command, Stdio, exit};
+use std::fs::File;
+use std::io::{self, BufRead, Read};
+use std::os::fd::{AsRawFd, FromRawFd};
+use std::panic::{AssertUnwindSafe, catch_unwind};
+use std::process::exit;
+use std::time::Duration;
 
-use cfgrammar::yacc::{YaccGrammar, YaccKind, YaccOriginalActionKind};
+use cfgrammar::yacc::{SentenceGenerator, YaccGrammar, YaccKind, YaccOriginalActionKind};
 use cfgrammar::{PIdx, RIdx, Symbol, TIdx};
 
 const RULE: u16 = 32768;
-const MICROSECONDS: i64 = 200_000; // of the processor's time
+// A question has so much of the processor's time, and so much more for each symbol: costs that return may take some
+// 65536 rounds over all symbols. Where the costs have run out of time, a sentence that asks for them does so too, and
+// one that does not takes next to none: it has the third time.
+const COSTS: Duration = Duration::from_millis(4);
+const SYMBOL: Duration = Duration::from_micros(200);
+const SENTENCE: Duration = Duration::from_millis(2);
 const BYTES: u64 = 512 << 20;
 
 struct Flat {
@@ -109,7 +118,7 @@ fn held(len: usize, holds: impl Fn(u16) -> bool) -> String {
     listed((0..len as u16).filter(|&i| holds(i)))
 }
 
-fn answer(line: &str, flat: &Flat) -> String {
+fn answer(flat: &Flat) -> String {
     let (grm, tokens) = (build(flat), flat.costs.len());
     let (firsts, follows) = (grm.firsts(), grm.follows());
     let rules = || (0..flat.rules).map(RIdx);
@@ -117,81 +126,175 @@ fn answer(line: &str, flat: &Flat) -> String {
     let empty = listed(rules().map(|r| firsts.is_epsilon_set(r) as u8));
     let follow = listed(rules().map(|r| held(tokens, |t| follows.is_set(r, TIdx(t)))));
     let path = listed(rules().map(|a| listed(rules().map(|b| grm.has_path(a, b) as u8))));
-    let costs = apart(line, &["costs".to_string()]);
-    let sentences = listed((0..flat.rules).map(|r| apart(line, &["sentence".to_string(), r.to_string()])));
+    let mut outcomes = outcomes(&grm, flat);
+    let costs = outcomes.remove(0);
     let entries = [
         ("first", first),
         ("empty", empty),
         ("follow", follow),
         ("path", path),
+        ("beyond", listed(beyond(&grm, flat).into_iter())),
         ("costs", costs),
-        ("sentences", sentences),
+        ("sentences", listed(outcomes.into_iter())),
     ];
     format!("{{{}}}", entries.map(|(name, entry)| format!("\"{name}\":{entry}")).join(","))
 }
 
-/// The outcome of this program with these words, in a process of its own.
-fn apart(line: &str, words: &[String]) -> String {
-    run(line, words).unwrap_or_else(|error| fail(format!("{words:?}: {error}")))
+/// What the crate makes of the first numbers that are out of range.
+fn beyond(grm: &YaccGrammar<u16>, flat: &Flat) -> [String; 3] {
+    let (rule, prod) = (RIdx(flat.rules), PIdx(flat.owners.len() as u16));
+    let path = |from, to| vec![grm.has_path(from, to) as u16];
+    [caught(|| vec![grm.prod(prod).len() as u16]), caught(|| path(rule, RIdx(0))), caught(|| path(RIdx(0), rule))]
 }
 
-fn run(line: &str, words: &[String]) -> io::Result<String> {
-    let mut command = Command::new(std::env::current_exe()?);
-    let mut child = command.args(words).stdin(Stdio::piped()).stdout(Stdio::piped()).stderr(Stdio::piped()).spawn()?;
-    child.stdin.take().unwrap().write_all(line.as_bytes())?;
-    let output = child.wait_with_output()?;
-    let said = String::from_utf8_lossy(&output.stderr);
-    Ok(match (output.status.code(), output.status.signal()) {
-        (Some(0), _) => format!("{{\"returned\":{}}}", String::from_utf8_lossy(&output.stdout).trim()),
-        (Some(101), _) => format!("{{\"panicked\":{:?}}}", said.trim()),
-        (_, Some(SIGPROF)) => "\"out of time\"".to_string(),
-        (_, Some(SIGABRT)) if said.contains("memory allocation") => "\"out of memory\"".to_string(),
-        _ => fail(format!("{words:?}: {}: {said}", output.status)),
-    })
-}
-
-const SIGABRT: i32 = 6;
-const SIGPROF: i32 = 27;
-const ITIMER_PROF: i32 = 2;
-const RLIMIT_AS: i32 = 9;
-
-// Linux's, with 64-bit numbers.
-unsafe extern "C" {
-    fn setitimer(which: i32, new: *const [i64; 4], old: *mut [i64; 4]) -> i32;
-    fn setrlimit(which: i32, limit: *const [u64; 2]) -> i32;
-}
-
-/// From here on this process has so much time and memory left.
-fn limit() {
-    let failed = unsafe {
-        setrlimit(RLIMIT_AS, &[BYTES, BYTES]) | setitimer(ITIMER_PROF, &[0, 0, 0, MICROSECONDS], std::ptr::null_mut())
-    };
-    if failed != 0 {
-        fail("no limits can be set");
+/// What a question returns, or its panic.
+fn caught(question: impl FnOnce() -> Vec<u16>) -> String {
+    match catch_unwind(AssertUnwindSafe(question)) {
+        Ok(numbers) => format!("{{\"returned\":{}}}", listed(numbers.into_iter())),
+        Err(panic) => {
+            let text = panic.downcast_ref::<String>().map(String::as_str).or(panic.downcast_ref::<&str>().copied());
+            format!("{{\"panicked\":{:?}}}", text.unwrap_or("no message"))
+        }
     }
 }
 
-fn alone(words: &[&str], flat: &Flat) -> String {
-    std::panic::set_hook(Box::new(|info| eprintln!("{}", info.payload_as_str().unwrap_or("no message"))));
-    let grm = build(flat);
-    limit();
+/// The outcomes of the costs and of each rule's sentence.
+fn outcomes(grm: &YaccGrammar<u16>, flat: &Flat) -> Vec<String> {
+    let most = COSTS + SYMBOL * flat.symbols.len() as u32;
+    let mut found: Vec<String> = Vec::new();
+    while found.len() <= flat.rules.into() {
+        let time = if found.first().is_some_and(|costs| costs == OUT_OF_TIME) { SENTENCE } else { most };
+        let (lines, ended) = Child::start(|| answer_from(found.len(), grm, flat)).finish(time);
+        found.extend(lines);
+        found.extend(ended.map(String::from));
+    }
+    found
+}
+
+/// Writes the outcome of each question from that number on: 0 asks for the costs, r + 1 for the sentence of rule r.
+fn answer_from(first: usize, grm: &YaccGrammar<u16>, flat: &Flat) {
     let sentences = grm.sentence_generator(|token| flat.costs[usize::from(token)]);
-    match words {
-        ["costs"] => listed((0..flat.rules).map(|r| sentences.min_sentence_cost(RIdx(r)))),
-        ["sentence", rule] => {
-            let rule = RIdx(rule.parse().unwrap_or_else(|_| fail("no rule")));
-            listed(sentences.min_sentence(rule).into_iter().map(|token| token.as_storaget()))
+    for question in first..=flat.rules.into() {
+        println!("{}", caught(|| asked(question, &sentences, flat)));
+    }
+}
+
+fn asked(question: usize, sentences: &SentenceGenerator<u16>, flat: &Flat) -> Vec<u16> {
+    match question.checked_sub(1) {
+        None => (0..flat.rules).map(|r| sentences.min_sentence_cost(RIdx(r))).collect(),
+        Some(r) => sentences.min_sentence(RIdx(r as u16)).into_iter().map(|token| token.as_storaget()).collect(),
+    }
+}
+
+const OUT_OF_TIME: &str = "\"out of time\"";
+const OUT_OF_MEMORY: &str = "\"out of memory\"";
+const SIGABRT: i32 = 6;
+const SIGKILL: i32 = 9;
+const RLIMIT_AS: i32 = 9;
+const POLLIN: u64 = 1;
+
+// Linux's, with 64-bit numbers.
+unsafe extern "C" {
+    fn pipe(ends: *mut [i32; 2]) -> i32;
+    fn fork() -> i32;
+    fn dup2(from: i32, to: i32) -> i32;
+    fn close(end: i32) -> i32;
+    fn setrlimit(which: i32, limit: *const [u64; 2]) -> i32;
+    fn poll(waited: *mut u64, count: u64, milliseconds: i32) -> i32;
+    fn clock_getcpuclockid(process: i32, clock: *mut i32) -> i32;
+    fn clock_gettime(clock: i32, time: *mut [i64; 2]) -> i32;
+    fn kill(process: i32, signal: i32) -> i32;
+    fn waitpid(process: i32, status: *mut i32, options: i32) -> i32;
+    fn _exit(status: i32) -> !;
+}
+
+fn worked(result: i32, what: &str) -> i32 {
+    if result < 0 {
+        fail(format!("{what}: {}", io::Error::last_os_error()));
+    }
+    result
+}
+
+/// A copy of this process, whose output and errors come here.
+struct Child {
+    process: i32,
+    clock: i32,
+    said: File,
+}
+
+impl Child {
+    fn start(work: impl FnOnce()) -> Child {
+        let mut ends = [0; 2];
+        worked(unsafe { pipe(&mut ends) }, "pipe");
+        let process = worked(unsafe { fork() }, "fork");
+        if process == 0 {
+            worked(unsafe { dup2(ends[1], 1) | dup2(ends[1], 2) }, "dup2");
+            worked(unsafe { setrlimit(RLIMIT_AS, &[BYTES, BYTES]) }, "setrlimit");
+            work();
+            unsafe { _exit(0) }
         }
-        _ => fail("use: oracle, oracle costs, or oracle sentence RULE"),
+        unsafe { close(ends[1]) };
+        let mut clock = 0;
+        worked(-unsafe { clock_getcpuclockid(process, &mut clock) }, "clock_getcpuclockid");
+        Child { process, clock, said: unsafe { File::from_raw_fd(ends[0]) } }
+    }
+
+    /// The processor's time that it has had.
+    fn time(&self) -> Duration {
+        let mut time = [0; 2];
+        worked(unsafe { clock_gettime(self.clock, &mut time) }, "clock_gettime");
+        Duration::new(time[0] as u64, time[1] as u32)
+    }
+
+    /// Whether it writes, or ends, within a millisecond.
+    fn writes(&self) -> bool {
+        let mut waited = self.said.as_raw_fd() as u64 | POLLIN << 32;
+        worked(unsafe { poll(&mut waited, 1, 1) }, "poll") > 0
+    }
+
+    /// All that it writes until it ends, or until one line has taken more than that time: then it is ended.
+    fn read(&mut self, limit: Duration) -> String {
+        let (mut said, mut part, mut since) = (Vec::new(), vec![0; 1 << 16], Duration::ZERO);
+        loop {
+            if !self.writes() {
+                if self.time() > since + limit {
+                    worked(unsafe { kill(self.process, SIGKILL) }, "kill");
+                }
+                continue;
+            }
+            let count = self.said.read(&mut part).unwrap_or_else(|error| fail(error));
+            if count == 0 {
+                return String::from_utf8_lossy(&said).into_owned();
+            }
+            if part[..count].contains(&b'\n') {
+                since = self.time();
+            }
+            said.extend_from_slice(&part[..count]);
+        }
+    }
+
+    /// The whole lines that it writes, and the outcome of the question at which it was ended, if it was.
+    fn finish(mut self, limit: Duration) -> (Vec<String>, Option<&'static str>) {
+        let said = self.read(limit);
+        let mut status = 0;
+        worked(unsafe { waitpid(self.process, &mut status, 0) }, "waitpid");
+        let whole = said.rfind('\n').map_or(0, |end| end + 1);
+        let mut lines: Vec<String> = said[..whole].lines().map(String::from).collect();
+        let ended = match status & 0x7f {
+            0 if status == 0 => None,
+            SIGKILL => Some(OUT_OF_TIME),
+            SIGABRT if lines.pop_if(|line| line.starts_with("memory allocation of")).is_some() => Some(OUT_OF_MEMORY),
+            _ => fail(format!("a child ended with status {status}: {said}")),
+        };
+        (lines, ended)
     }
 }
 
 fn main() {
-    let words: Vec<String> = std::env::args().skip(1).collect();
-    let words: Vec<&str> = words.iter().map(String::as_str).collect();
+    std::panic::set_hook(Box::new(|_| ()));
     for line in io::stdin().lock().lines() {
         let line = line.unwrap_or_else(|error| fail(error));
         let flat = Flat::read(&line).unwrap_or_else(|| fail("a line is no grammar"));
-        println!("{}", if words.is_empty() { answer(&line, &flat) } else { alone(&words, &flat) });
+        println!("{}", answer(&flat));
     }
 }

@@ -3,7 +3,6 @@ use mathlib.Core.Bool.{Bool, not, _||_}
 use mathlib.Core.List.{List}
 use Prim.Native.Nat.{ℕ, _+_, _*_, _-_, _/_, _%_}
 use lib.Dec.{eqb, ltb}
-use lib.ListN.{length}
 use Rattle.theory.specs.Below.{some}
 use Rattle.grammar.specs.Refusals.{sizesOut}
 use Rattle.blocks.specs.declared.Counts.{Counts}

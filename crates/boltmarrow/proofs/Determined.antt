@@ -1,6 +1,6 @@
 -- An exported call's promise determines its answer and every lent byte: the library call's promise does.
 use mathlib.Core.List.{List}
-use mathlib.Core.Path.{_≡_, refl, sym, ap, _∙_}
+use mathlib.Core.Path.{_≡_, sym, ap, _∙_}
 use Prim.Native.Nat.{ℕ}
 use Rattle.grammar.specs.Flat.{Flat}
 use Rattle.grammar.specs.Production.{checkedIs, checkOf}
@@ -17,7 +17,7 @@ use Rattle.costs.specs.Query.{MinSentenceCost}
 use Rattle.costs.proofs.Determined as Costs
 use Rattle.follows.specs.Calls.{Clear as FollowClear, Visit as FollowVisit, Fill as FollowFill}
 use Rattle.follows.proofs.Determined as Follows
-use Rattle.sentences.specs.Query.{lends, MinSentence}
+use Rattle.sentences.specs.Query.{MinSentence}
 use Rattle.sentences.proofs.Determined as Sentences
 use Rattle.blocks.specs.Reading.{Lists, Read}
 use Rattle.blocks.proofs.Determined.{read-one}

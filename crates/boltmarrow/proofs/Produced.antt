@@ -15,11 +15,10 @@ use Rattle.grammar.specs.Well.{WellFormed}
 use Rattle.grammar.specs.declared.Checked.the-variants.{Well, Refused as Not}
 use Rattle.grammar.specs.declared.Length.{Length}
 use Rattle.grammar.specs.declared.Length.the-variants.{Is, Refused}
-use Rattle.grammar.proofs.Forms.{prod-in, Placed, placed}
+use Rattle.grammar.proofs.Forms.{prod-in, placed}
 use Rattle.grammar.proofs.Lowest.{after-well, after-refused}
 use Rattle.grammar.proofs.Outcomes.{not-both, refused-one, answers-one}
 use Rattle.grammar.proofs.Well.{well}
-use Rattle.boltmarrow.specs.declared.Stretch.{Stretch}
 use Rattle.boltmarrow.specs.Exports.{refusalOf, stretchAt, stretchOf}
 
 -- a length was answered: the grammar is well-formed and the number is a production's

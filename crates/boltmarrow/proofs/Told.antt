@@ -1,13 +1,12 @@
 -- A refusal is told apart from any answer: an exported call's refusal is 0 exactly where the library call answered.
 use mathlib.Core.Bool.{Bool, true, false}
 use mathlib.Core.List.{List, [], _∷_}
-use mathlib.Core.Logic.{_⊎_, inl, inr}
-use mathlib.Core.Path.{_≡_, refl, sym, ap, _∙_, subst}
+use mathlib.Core.Logic.{inl, inr}
+use mathlib.Core.Path.{_≡_, refl, sym, subst}
 use Prim.Native.Nat.{ℕ, suc, _≤_}
 use native.Mathlib.Omega.{arith}
 use Rattle.grammar.specs.Flat.{Flat}
 use Rattle.grammar.specs.Outcome.{Outcome, answers, refused, unless, lowest}
-use Rattle.grammar.specs.Production.{checkOf, productionOf}
 use Rattle.grammar.specs.Refusals.{dues, unlessDue}
 use Rattle.tables.specs.Call.{Call, Visits, Leaves}
 use Rattle.paths.specs.Calls.{Answers}

@@ -1,23 +1,21 @@
 -- A claim whose test is true means what it says.
-use mathlib.Core.Bool.{Bool, true, false, not, _&&_, _||_, false≢true, true≢false}
+use mathlib.Core.Bool.{Bool, true, false, not, _&&_, false≢true, true≢false}
 use mathlib.Core.List.{List, [], _∷_, List·Memᴰ, List·Memᴰ·head, List·Memᴰ·tail, List·Memᴰ·cases-cons, List·Memᴰ·not-nil}
-use mathlib.Core.Logic.{_⊎_, inl, inr, _↔_}
+use mathlib.Core.Logic.{inl, inr, _↔_}
 use mathlib.Core.Path.{_≡_, refl, sym, ap, ap₂, _∙_, subst}
 use Prim.Native.Nat.{ℕ, zero, suc, _*_, _≤_, _<_}
 use native.Mathlib.Nat.{eq-or-lt-of-le, le-of-suc-le-suc, not-suc-le-zero}
 use native.Mathlib.Omega.{arith}
 use lib.Dec.{eqb, leb}
-use lib.ListN.{length, replicate, length-replicate}
+use lib.ListN.{length, length-replicate}
 use borrow.Author.Tests.{eqb-true, leb-true, eq-eqb, not-true}
-use Rattle.theory.specs.Definitions.{First, Productive, Cost, Path}
-use Rattle.theory.specs.Follow.{Mode, Follow}
-use Rattle.theory.specs.Grammar.{Sym, tok, rul, Form, Grammar}
-use Rattle.theory.specs.Levels.{Chosen, within, expanded}
-use Rattle.theory.specs.Rounds.{run}
+use Rattle.theory.specs.Definitions.{Cost}
+use Rattle.theory.specs.Follow.{Mode}
+use Rattle.theory.specs.Grammar.{tok, rul, Form, Grammar}
+use Rattle.theory.specs.Levels.{Chosen, within}
 use Rattle.theory.specs.Search.{Chain, one, link}
 use Rattle.theory.specs.Sentences.{Grounded, Expands}
 use Rattle.theory.specs.Tables.{Proper, FirstExact, FollowExact, ProductiveExact, CostExact}
-use Rattle.theory.specs.Visits.{Costs, firstVisit, firstCleared}
 use Rattle.theory.proofs.Bools.{and-split, or-split, or-left, or-right}
 use Rattle.theory.proofs.Choices.{choices-chosen}
 use Rattle.theory.proofs.Cost.{costs-one}

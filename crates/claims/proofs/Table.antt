@@ -1,5 +1,5 @@
 -- Document 01's starred lines, proved together.
-use mathlib.Core.Path.{_≡_, refl}
+use mathlib.Core.Path.{refl}
 use Rattle.theory.specs.Below.{some, count}
 use Rattle.grammar.specs.Refusals.{sizesOut, falls, startsWrong, ownerOut, owns, ruleUnowned, symbolOut, symbolsOut, startCount, oneRule, startLong, startHeld, startWrong, unlessDue}
 use Rattle.claims.specs.Claims.{AllMean, starred}

@@ -2,10 +2,10 @@
 use mathlib.Core.Bool.{Bool, true, false, not, _&&_, _||_}
 use mathlib.Core.List.{List, [], _∷_}
 use Prim.Native.Nat.{ℕ, zero, suc, _*_}
-use lib.Dec.{eqb, leb, ltb}
+use lib.Dec.{eqb, leb}
 use lib.ListN.{length, replicate}
 use Rattle.theory.specs.Follow.{Mode}
-use Rattle.theory.specs.Grammar.{Sym, tok, rul, Form, Grammar}
+use Rattle.theory.specs.Grammar.{tok, rul, Form, Grammar}
 use Rattle.theory.specs.Levels.{Choices, choicesBelow, within, expanded}
 use Rattle.theory.specs.Rounds.{run, rounds}
 use Rattle.theory.specs.Visits.{Table, Row, Costs, Marks, firstVisit, firstCleared, followVisit, followCleared, productiveVisit, productiveCleared, costVisit, costCleared}

@@ -1,22 +1,20 @@
 -- One production's step of PRODUCTIVE and of COST: what it asks of what it calls, and what it leaves.
-use mathlib.Core.Bool.{Bool, true, false, not, cond, _&&_, _||_, and-true, and-false, or-false, false≢true, true≢false}
+use mathlib.Core.Bool.{Bool, true, false, not, cond, _&&_, and-true, and-false, or-false, false≢true, true≢false}
 use mathlib.Core.List.{List}
 use mathlib.Core.Logic.{_⊎_, inl, inr}
-use mathlib.Core.Path.{_≡_, refl, sym, ap, _∙_, subst}
-use Prim.Native.Nat.{ℕ, _+_, _-_, _*_, _≤_, _<_, min}
+use mathlib.Core.Path.{_≡_, refl, sym, ap, _∙_}
+use Prim.Native.Nat.{ℕ, _+_, _*_, _≤_, _<_, min}
 use native.Mathlib.Decide.{ℕ-discrete, decLt}
 use native.Mathlib.Omega.{arith}
 use lib.Dec.{eqb, leb, ltb}
 use lib.ListN.{length, getD, set, length-set}
 use lib.Seq.{getD-set-same, getD-set-other}
 use borrow.Author.Tests.{leb-true, ltb-true, le-leb, lt-ltb, eq-eqb, ne-eqb, not-true, not-false}
-use Rattle.theory.specs.Visits.{allMarked, productiveVisit, formCost, lower, costVisit}
+use Rattle.theory.specs.Visits.{allMarked, formCost, lower, costVisit}
 use Rattle.theory.proofs.Bools.{and-split, and-join}
 use Rattle.grammar.specs.Flat.{Flat, flat, at, ProdAt, form, denoted, price}
-use Rattle.grammar.specs.Well.{WellFormed, SymbolFits}
 use Rattle.grammar.proofs.Forms.{prod-in, Placed, placed}
 use Rattle.rows.specs.Marks.{place, mark, marked, Raised}
-use Rattle.rows.specs.Tables.{Sized, rowView, RowBecame}
 use Rattle.rows.proofs.Marks.{row-in}
 use Rattle.rows.proofs.Raise.{fresh-not, raised-mark}
 use Rattle.rows.proofs.Row.{row-as, row-self, row-raised}

@@ -1,14 +1,13 @@
 -- Demand 3 on the lent words themselves, for calls of `visit` in any order with refused ones between; and demand 2 for what `fill` leaves.
-use mathlib.Core.Bool.{Bool, true, false, _||_, false≢true}
+use mathlib.Core.Bool.{false}
 use mathlib.Core.List.{List}
-use mathlib.Core.Path.{_≡_, refl, sym, _∙_, ap, subst}
-use Prim.Native.Nat.{ℕ, zero, suc, _*_, _≤_, _<_}
-use native.Mathlib.Omega.{arith}
+use mathlib.Core.Path.{_≡_, sym, _∙_}
+use Prim.Native.Nat.{ℕ, _*_, _≤_, _<_}
 use lib.Dec.{leb}
 use lib.ListN.{length}
 use borrow.Author.Tests.{leb-false, lt-leb}
 use Rattle.theory.specs.Rounds.{AllRounds}
-use Rattle.theory.specs.Tables.{FirstTrue, FirstExact}
+use Rattle.theory.specs.Tables.{FirstTrue}
 use Rattle.theory.specs.Visits.{Marks, firstVisit, firstCleared}
 use Rattle.theory.proofs.First.{first-any-order, first-one}
 use Rattle.grammar.specs.Flat.{Flat, denoted}

@@ -22,10 +22,11 @@ use Rattle.tables.proofs.Asking.{table-long, row-long, numbers-long}
 use Rattle.tables.proofs.Calls.{call-refused, call-does}
 use Rattle.lines.specs.Text.{decimal}
 use Rattle.lines.specs.Line.{lineOf, refusedWord, refusedOf}
-use Rattle.lines.specs.Append.{Room, Appended}
+use Rattle.tables.specs.Append.{Appended}
+use Rattle.lines.specs.Append.{Room}
 use Rattle.lines.specs.Lent.{Tables, tables, tablesWrong, outWrong, entryOf, Ready}
 use Rattle.lines.specs.Calls.{Writes, outDue, lineDue}
-use Rattle.lines.proofs.Appending.{appended-long, appended-then}
+use Rattle.tables.proofs.Appending.{appended-long, appended-then}
 use Rattle.lines.proofs.Fields.{parts-made}
 use Rattle.lines.proofs.Length.{five-digits, line-long, refused-long}
 

@@ -7,8 +7,9 @@ use native.Mathlib.Numerals.{add-one}
 use native.Mathlib.Omega.{arith}
 use lib.ListN.{length, take, set, getD}
 use lib.Seq.{take-suc, take-length, length-take-le}
-use Rattle.lines.specs.Append.{Room, Appended}
-use Rattle.lines.proofs.Appending.{appended-long, appended-none, appended-then, put-one}
+use Rattle.tables.specs.Append.{Appended}
+use Rattle.lines.specs.Append.{Room}
+use Rattle.tables.proofs.Appending.{appended-long, appended-none, appended-then, appended-one}
 
 -- the first i bytes of the text are written
 pub record Copying (text ws : List ℕ) (from : ℕ) (to : List ℕ) (next i : ℕ) : Type 0 where
@@ -25,7 +26,7 @@ module _ (text ws : List ℕ) (from : ℕ) (to : List ℕ) (next i : ℕ) (x : C
 
   pub copy-on : i < length text → Copying text ws from (set to next (getD text i 0)) (next + 1) (i + 1)
   copy-on l =
-      let a = appended-then (x .made) (put-one to next (getD text i 0)) in
+      let a = appended-then (x .made) (appended-one to next (getD text i 0)) in
       record {
         high = omega arith;
         made = subst (λ bs. Appended ws from bs (set to next (getD text i 0)) (next + 1)) (sym (take-suc text i 0 l) ∙ ap (λ k. take k text) (sym (add-one i))) a;

@@ -1,14 +1,16 @@
 -- Numbers in decimal: one digit, one more, and that the digits are the number's.
 use mathlib.Core.List.{List, [], _∷_, _++_}
 use mathlib.Core.Path.{_≡_, refl, sym, ap, _∙_, subst}
-use Prim.Native.Nat.{ℕ, zero, suc, _+_, _/_, _%_, _≤_, _<_}
+use Prim.Native.Nat.{ℕ, zero, suc, _/_, _%_, _≤_, _<_}
 use native.Mathlib.Decide.{decLt}
 use native.Mathlib.Omega.{arith}
 use lib.ListN.{length, length-append}
 use borrow.Author.Tests.{lt-ltb, le-ltb}
 use Rattle.lines.specs.Text.{digit, places, decimal}
-use Rattle.lines.specs.Append.{Room, Appended}
-use Rattle.lines.proofs.Appending.{appended-then, room-after}
+use Rattle.tables.specs.Append.{Appended}
+use Rattle.lines.specs.Append.{Room}
+use Rattle.tables.proofs.Appending.{appended-then}
+use Rattle.lines.proofs.Appending.{room-after}
 
 places-one : (k n : ℕ) → n < 10 → places k n ≡ digit n ∷ []
 unfolding places

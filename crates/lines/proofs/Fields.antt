@@ -7,9 +7,11 @@ use native.Mathlib.Omega.{arith}
 use lib.ListN.{length, length-append}
 use Rattle.lines.specs.Text.{decimal, after, between, spaced}
 use Rattle.lines.specs.Line.{Entry, lineOf, flag, priceOf, priced, noneWord, dearWord}
-use Rattle.lines.specs.Append.{Room, Appended, frontOf, rowWith, setsOf, backOf}
+use Rattle.tables.specs.Append.{Appended}
+use Rattle.lines.specs.Append.{Room, frontOf, rowWith, setsOf, backOf}
 use Rattle.lines.proofs.Price.{price-amount, price-dear, price-none}
-use Rattle.lines.proofs.Appending.{appended-then, room-front, room-back, room-after}
+use Rattle.tables.proofs.Appending.{appended-then}
+use Rattle.lines.proofs.Appending.{room-front, room-back, room-after}
 
 -- two parts, whose sum is known by equation
 module _ (ws : List ℕ) (from : ℕ) (all a b : List ℕ) (e : all ≡ a ++ b) where

@@ -3,11 +3,11 @@ use mathlib.Core.Bool.{Bool, true, false}
 use mathlib.Core.List.{List, [], _∷_, _++_, map, append-assoc, append-nil, List·Memᴰ, List·Memᴰ·head, List·Memᴰ·tail, List·Memᴰ·not-nil, List·Memᴰ·cases-cons, List·Memᴰ·append-cases}
 use mathlib.Core.Logic.{⊎-elim}
 use mathlib.Core.Path.{_≡_, refl, sym, ap, _∙_, subst}
-use Prim.Native.Nat.{ℕ, _+_, _≤_, _<_}
+use Prim.Native.Nat.{ℕ, _≤_, _<_}
 use native.Mathlib.Omega.{arith}
-use lib.ListN.{length, getD, length-append}
+use lib.ListN.{length, length-append}
 use Rattle.lines.specs.Text.{decimal, value, after, between, spaced}
-use Rattle.lines.specs.Line.{Price, amount, none, dear, Entry, flag, noneWord, dearWord, priced, lineOf}
+use Rattle.lines.specs.Line.{Price, amount, none, dear, Entry, flag, priced, lineOf}
 use Rattle.lines.proofs.Decimal.{decimal-some}
 use Rattle.lines.proofs.Digits.{decimal-is}
 

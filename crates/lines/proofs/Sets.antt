@@ -11,8 +11,10 @@ use mathlib.Core.Logic.{⊎-elim}
 use borrow.Author.Tests.{not-true, not-false}
 use Rattle.rows.specs.Marks.{place, mark}
 use Rattle.lines.specs.Text.{decimal, members, after, between, spaced}
-use Rattle.lines.specs.Append.{Room, Appended, added, Row, rowOf}
-use Rattle.lines.proofs.Appending.{appended-long, appended-none, appended-then, room-back, room-after}
+use Rattle.tables.specs.Append.{Appended}
+use Rattle.lines.specs.Append.{Room, added, Row, rowOf}
+use Rattle.tables.proofs.Appending.{appended-long, appended-none, appended-then}
+use Rattle.lines.proofs.Appending.{room-back, room-after}
 
 -- whether a list has numbers
 abbrev pub any : List ℕ → Bool

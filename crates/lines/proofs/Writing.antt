@@ -2,7 +2,7 @@
 use mathlib.Core.Bool.{Bool}
 use mathlib.Core.List.{List, _++_}
 use mathlib.Core.Path.{_≡_, sym, _∙_}
-use Prim.Native.Nat.{ℕ, _+_, _*_, _≤_, _<_}
+use Prim.Native.Nat.{ℕ, _*_, _≤_, _<_}
 use native.Mathlib.Nat.{mul-le-mul-right}
 use native.Mathlib.Omega.{arith}
 use lib.ListN.{length, length-append}
@@ -11,9 +11,10 @@ use Rattle.rows.specs.Marks.{mark}
 use Rattle.tables.specs.Sizes.{words}
 use Rattle.lines.specs.Text.{members}
 use Rattle.lines.specs.Line.{priceOf, lineOf}
-use Rattle.lines.specs.Append.{Room, Appended, Row, rowOf, frontOf, rowWith, setsOf, backOf}
+use Rattle.tables.specs.Append.{Appended}
+use Rattle.lines.specs.Append.{Room, Row, rowOf, frontOf, rowWith, setsOf, backOf}
 use Rattle.lines.specs.Lent.{tables, entryOf, Ready}
-use Rattle.lines.proofs.Appending.{appended-long, appended-then}
+use Rattle.tables.proofs.Appending.{appended-long, appended-then}
 use Rattle.lines.proofs.Fields.{line-parts, parts-made}
 use Rattle.lines.proofs.Length.{front-long, row-long, back-long}
 

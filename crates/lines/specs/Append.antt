@@ -1,10 +1,8 @@
--- Bytes appended at a place of a lent buffer.
+-- The bytes that are appended to a lent buffer, and the room for them.
 use mathlib.Core.Bool.{Bool, cond}
 use mathlib.Core.List.{List, [], _∷_, _++_}
-use mathlib.Core.Path.{_≡_}
 use Prim.Native.Nat.{ℕ, _+_, _*_, _≤_}
 use lib.ListN.{length}
-use lib.Seq.{sets}
 use Rattle.rows.specs.Marks.{mark}
 use Rattle.lines.specs.Text.{decimal, members, spaced}
 use Rattle.lines.specs.Line.{Price, flag, priced}
@@ -12,11 +10,6 @@ use Rattle.lines.specs.Line.{Price, flag, priced}
 -- the bytes have room from place `from` on
 pub record Room (out : List ℕ) (from : ℕ) (bytes : List ℕ) : Type 0 where
   pub fits : from + length bytes ≤ length out
-
--- the bytes stand from place `from` on, every other byte is as it was, and n is the place after them
-pub record Appended (out : List ℕ) (from : ℕ) (bytes to : List ℕ) (n : ℕ) : Type 0 where
-  pub next : n ≡ from + length bytes
-  pub left : to ≡ sets out from bytes
 
 -- what number t adds to the numbers before it: nothing if it is not on, and a space first if some came before
 unfoldable pub added : (on some : Bool) → ℕ → List ℕ

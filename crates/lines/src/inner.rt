@@ -10,7 +10,8 @@ ghost use mathlib.Core.List.{_∷_, []};
 ghost use Prim.Native.Nat.{_≤_, _<_};
 ghost use Rattle.lines.specs.Text.{decimal, spaced, digit as digitOf};
 ghost use Rattle.lines.specs.Line.{flag as flagOf, priceOf, priced, lineOf};
-ghost use Rattle.lines.specs.Append.{Room, Appended, added, Row, rowOf, frontOf, rowWith, setsOf, backOf};
+ghost use Rattle.tables.specs.Append.{Appended};
+ghost use Rattle.lines.specs.Append.{Room, added, Row, rowOf, frontOf, rowWith, setsOf, backOf};
 ghost use Rattle.lines.specs.Lent.{tables, tablesWrong, outWrong, entryOf, Ready};
 
 fn put(byte: u8, out: &mut [u8], at: usize) -> usize

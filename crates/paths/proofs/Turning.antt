@@ -15,7 +15,7 @@ use Rattle.theory.specs.Search.{State, start, enter, Passed, Fair, Left}
 use Rattle.theory.proofs.Search.{reach-on, left-none, left-idle, left-work, left-then, start-fair, fair-opened, idle-none, seen-upto}
 use Rattle.grammar.specs.Flat.{at, flat}
 use Rattle.grammar.specs.Well.{WellFormed}
-use Rattle.grammar.proofs.Denoted.{symbol-rule}
+use Rattle.grammar.proofs.Denoted.{rule-symbol}
 use Rattle.grammar.proofs.Well.{laid-end}
 use Rattle.paths.specs.Links.{Linked, Linkable}
 use Rattle.paths.specs.Lists.{row, state, Long, Holds, Goes}
@@ -26,7 +26,7 @@ use Rattle.paths.proofs.Linking.{linkable}
 -- a production of a well-formed grammar holds rules below R
 pub holds-in : (R : ℕ) (owners starts symbols costs : List ℕ) → WellFormed (flat R owners starts symbols costs) → (a b : ℕ) → Holds owners starts symbols a b → b < R
 holds-in R owners starts symbols costs w a b h =
-    let s = symbol-rule (at symbols (h .among .place)) b (sym (h .among .is)) in
+    let s = rule-symbol (at symbols (h .among .place)) b (sym (h .among .is)) in
     omega (arith, s .0, s .1, w .symbols (h .among .place) (omega (arith, h .among .high, laid-end (w .laid) (h .isProd))) .rule (s .0))
 
 -- the rules before r have had their turn

@@ -1,12 +1,10 @@
 -- The sizes of the report's tables.
 use mathlib.Core.List.{List}
-use mathlib.Core.Path.{_≡_, sym, ap, _∙_, subst}
-use Prim.Native.Nat.{ℕ, _+_, _*_, _≤_}
-use native.Mathlib.Nat.{mul-le-mul}
+use mathlib.Core.Path.{_≡_, ap, subst}
+use Prim.Native.Nat.{ℕ, _≤_}
 use native.Mathlib.Omega.{arith}
 use lib.ListN.{length, take}
 use lib.Seq.{length-take-le}
-use Rattle.tables.specs.Sizes.{words}
 use Rattle.blocks.specs.Conditions.{Limited}
 use Rattle.blocks.specs.Reading.{Lists, readingIs, Read}
 use Rattle.blocks.specs.Steps.{Fronts}
@@ -14,10 +12,6 @@ use Rattle.blocks.specs.declared.Counts.{Counts}
 use Rattle.blocks.specs.declared.Reading.{Reading}
 use Rattle.blocks.specs.declared.Reading.the-variants.{Counts as Given}
 use Rattle.blocks.proofs.Exactly.{counts-given}
-
--- 512 rows of 16 words are the most
-pub table-most : (R T w : ℕ) → R ≤ 512 → T ≤ 512 → w ≡ words T → R * w ≤ 8192
-table-most R T w lr lt e = let h = mul-le-mul {n₁ = R} {m₁ = w} {n₂ = 512} {m₂ = 16} lr (omega arith) in omega (arith, h)
 
 -- the rules and tokens of a grammar at the fronts of the lists
 pub front-sizes : (c : Counts) (costs : List ℕ) (t : ℕ) → Limited c → t ≡ c .tokens → t ≤ length costs → (c .rules ≤ 512) × (length (take t costs) ≤ 512)

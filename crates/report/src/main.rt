@@ -4,6 +4,7 @@ use blocks::Reading;
 use grammar::RIdx;
 use grammar::inner::wide;
 use lines::Written;
+use tables::inner::table_words;
 use tables::inner::words_for;
 ghost use Prim.Native.Nat.{_≤_};
 ghost use lib.ListN.{length};
@@ -104,7 +105,7 @@ fn report(
     );
 }
 
-// The rules, the words of a row by rule, and the words of a table of marks.
+// The rules, and the words of a row by rule.
 fn rule_count(rules: u16) -> usize
     requires { ⌜ rules ≤ 512 ⌝ }
     ensures { λ r. ⌜ r ≤ 512 ⌝ }
@@ -117,13 +118,6 @@ fn row_words(rules: usize) -> usize
     ensures { λ r. ⌜ r ≤ 16 ⌝ }
 {
     words_for(rules)
-}
-
-fn table_words(rules: usize, tokens: usize) -> usize
-    requires { ⌜ (rules ≤ 512) × (tokens ≤ 512) ⌝ }
-    ensures { λ r. ⌜ r ≤ 8192 ⌝ }
-{
-    rules * words_for(tokens)
 }
 
 // The report of a grammar, with tables of their exact lengths.

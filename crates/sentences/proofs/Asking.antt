@@ -4,18 +4,18 @@ use mathlib.Core.List.{List}
 use mathlib.Core.Path.{_≡_, sym, _∙_, ap}
 use Prim.Native.Nat.{ℕ, _≤_, _<_}
 use native.Mathlib.Omega.{arith}
-use lib.ListN.{length, replicate}
+use lib.ListN.{replicate}
 use borrow.Author.Tests.{le-leb, lt-leb}
 use Rattle.theory.proofs.Bools.{or-none}
 use Rattle.grammar.specs.Flat.{Flat}
-use Rattle.grammar.specs.Outcome.{Outcome, answers, refused}
+use Rattle.grammar.specs.Outcome.{Outcome, refused}
 use Rattle.grammar.specs.Production.{checkedIs, checkOf}
 use Rattle.grammar.specs.declared.Checked.{Checked}
 use Rattle.grammar.specs.declared.Checked.the-variants.{Well}
 use Rattle.grammar.proofs.Lowest.{after-well}
 use Rattle.grammar.proofs.Well.{well}
 use Rattle.tables.specs.Call.{Call}
-use Rattle.tables.specs.Sizes.{words, rowWrong, numbersWrong}
+use Rattle.tables.specs.Sizes.{rowWrong, numbersWrong}
 use Rattle.tables.proofs.Asking.{row-long, numbers-long}
 use Rattle.tables.proofs.Calls.{call-refused, call-does}
 use Rattle.costs.specs.Lent.{costsOf}

@@ -1,8 +1,8 @@
 -- The pass that finds first choices: what a production's turn makes of them, and what all turns leave.
-use mathlib.Core.Bool.{Bool, true, false, not, cond, _&&_, _||_, and-true, and-false, or-false, or-true, false≢true, true≢false}
+use mathlib.Core.Bool.{Bool, true, false, not, cond, _&&_, _||_, or-false, or-true, false≢true, true≢false}
 use mathlib.Core.List.{List}
 use mathlib.Core.Path.{_≡_, refl, sym, ap, _∙_, subst}
-use Prim.Native.Nat.{ℕ, zero, suc, _+_, _≤_, _<_, min}
+use Prim.Native.Nat.{ℕ, _+_, _≤_, _<_, min}
 use native.Mathlib.Decide.{ℕ-discrete}
 use native.Mathlib.Numerals.{add-one}
 use native.Mathlib.Omega.{arith}
@@ -10,14 +10,13 @@ use lib.Dec.{eqb, leb, ltb}
 use lib.ListN.{length, getD, set, replicate, length-set, length-replicate, getD-replicate, List·getD-eq-default}
 use lib.Seq.{getD-set-same, getD-set-other}
 use native.Mathlib.Decide.{decLt}
-use borrow.Author.Tests.{leb-true, ltb-true, eqb-true, le-leb, lt-leb, lt-ltb, le-ltb, eq-eqb, ne-eqb, not-true, not-false}
+use borrow.Author.Tests.{leb-true, eqb-true, le-leb, lt-ltb, le-ltb, eq-eqb, ne-eqb}
 use Rattle.theory.specs.Below.{FirstBelow}
-use Rattle.theory.specs.Levels.{Choices, suits, choiceVisit, ChosenBelow, Chosen}
+use Rattle.theory.specs.Levels.{suits, ChosenBelow}
 use Rattle.theory.specs.Visits.{formCost}
-use Rattle.theory.proofs.Bools.{and-split, and-join, bool-eq}
+use Rattle.theory.proofs.Bools.{and-split, bool-eq}
 use Rattle.theory.proofs.Choices.{chosen-none, chosen-more, chosen-all}
 use Rattle.grammar.specs.Flat.{Flat, flat, at, ProdAt, form, denoted, price}
-use Rattle.grammar.specs.Well.{WellFormed}
 use Rattle.grammar.proofs.Forms.{Placed, placed}
 use Rattle.costs.specs.Lent.{costsOf, sumOf}
 use Rattle.costs.specs.Step.{Pricing, CostReady}

@@ -1,16 +1,15 @@
 -- The token count of a stretch, symbol by symbol: what is counted so far, and what is left.
-use mathlib.Core.Bool.{Bool, true, false, cond, _&&_, true≢false}
+use mathlib.Core.Bool.{Bool, true, false, _&&_}
 use mathlib.Core.List.{List, [], _∷_}
 use mathlib.Core.Path.{_≡_, refl, sym, ap, _∙_}
 use Prim.Native.Nat.{ℕ, _+_, _-_, _≤_, _<_, min}
-use native.Mathlib.Decide.{decLt}
 use native.Mathlib.Omega.{arith}
 use lib.Dec.{leb}
 use lib.ListN.{length}
 use borrow.Author.Tests.{le-leb, lt-leb}
 use Rattle.theory.specs.Grammar.{Sym, tok, rul, Form}
 use Rattle.theory.specs.Levels.{formLength, known}
-use Rattle.theory.specs.Visits.{Row, Costs, allMarked, formCost}
+use Rattle.theory.specs.Visits.{Row, Costs, allMarked}
 use Rattle.grammar.specs.Flat.{at, symbol, form}
 use Rattle.grammar.proofs.Forms.{form-done, form-more, symbol-token, symbol-rule}
 use Rattle.costs.proofs.Summing.{default-same}

@@ -3,7 +3,7 @@ use mathlib.Core.List.{List}
 use mathlib.Core.Path.{_≡_, refl, sym, _∙_, ap, subst}
 use Prim.Native.Nat.{ℕ}
 use Rattle.theory.proofs.Lengths.{lengths-one}
-use Rattle.grammar.specs.Flat.{Flat, denoted, price}
+use Rattle.grammar.specs.Flat.{Flat}
 use Rattle.grammar.specs.Outcome.{Outcome, answers, refused}
 use Rattle.tables.proofs.Calls.{Both, call-one, told-apart}
 use Rattle.costs.specs.Lent.{costsOf}

@@ -2,7 +2,7 @@
 use mathlib.Core.Bool.{Bool, true, false, true≢false}
 use mathlib.Core.List.{List, [], _∷_, _++_}
 use mathlib.Core.Logic.{_⊎_, inl, inr, _↔_}
-use mathlib.Core.Path.{_≡_, refl, sym, _∙_, ap}
+use mathlib.Core.Path.{_≡_, refl, sym, _∙_}
 use Prim.Native.Nat.{ℕ, _≤_, _<_}
 use native.Mathlib.Decide.{decLe}
 use native.Mathlib.Omega.{arith}
@@ -11,7 +11,6 @@ use Rattle.theory.specs.Definitions.{Productive, Sentence, costOf, Cost}
 use Rattle.theory.specs.Grammar.{rul}
 use Rattle.theory.specs.Sentences.{Grounded, Expands}
 use Rattle.theory.specs.Visits.{Costs}
-use Rattle.theory.proofs.Cost.{cost-one}
 use Rattle.theory.proofs.Lengths.{length-grounded, grounded-length}
 use Rattle.theory.proofs.Sentences.{grounded-expands, sentence-of}
 use Rattle.grammar.specs.Flat.{Flat, denoted, price}

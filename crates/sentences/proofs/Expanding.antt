@@ -1,53 +1,29 @@
 -- Expansion step by step: what is written so far, what is left, and the room for it.
-use mathlib.Core.Bool.{Bool, true, false, false≢true}
+use mathlib.Core.Bool.{true, false≢true}
 use mathlib.Core.List.{List, [], _∷_, _++_, append-nil, append-assoc}
 use mathlib.Core.Path.{_≡_, refl, sym, ap, _∙_, subst}
-use Prim.Native.Nat.{ℕ, zero, suc, _+_, _-_, _*_, _≤_, _<_}
-use native.Mathlib.Nat.{add-zero}
-use native.Mathlib.Numerals.{add-one}
+use Prim.Native.Nat.{ℕ, zero, suc, _+_, _-_, _≤_, _<_}
 use native.Mathlib.Omega.{arith}
-use lib.ListN.{length, getD, set, length-set, length-append}
-use lib.Seq.{sets, length-sets}
-use borrow.Author.Tests.{ltb-true}
-use Rattle.theory.specs.Grammar.{tok, rul, Form, Grammar}
+use lib.ListN.{length, set, length-append}
+use Rattle.theory.specs.Grammar.{tok, rul, Grammar}
 use Rattle.theory.specs.Levels.{Choices, within, filled, expanded}
 use Rattle.theory.specs.Visits.{allMarked}
 use Rattle.theory.proofs.Bools.{and-split}
-use Rattle.grammar.specs.Flat.{Flat, flat, at, form, denoted}
+use Rattle.grammar.specs.Flat.{Flat, at, form, denoted}
 use Rattle.grammar.proofs.Forms.{form-done, form-token, form-rule, prod-in, Placed, placed}
+use Rattle.tables.specs.Append.{Appended}
+use Rattle.tables.proofs.Appending.{appended-long, appended-none, appended-one, appended-then}
 use Rattle.costs.proofs.Summing.{default-same}
-use Rattle.sentences.specs.Lent.{choicesOf, lengthsOf}
-use Rattle.sentences.specs.Expanding.{Leads, Led, RuleReady, ProductionReady, Wrote}
+use Rattle.sentences.specs.Lent.{choicesOf}
+use Rattle.sentences.specs.Expanding.{RuleReady, ProductionReady}
 use Rattle.sentences.proofs.Counting.{length-entry}
-
--- writing: nothing, one token more, and one stretch after another
-pub sets-append : (a b l : List ℕ) (i : ℕ) → sets (sets l i a) (i + length a) b ≡ sets l i (a ++ b)
-sets-append [] b l i = rw add-zero
-sets-append (x ∷ a) b l i = ap (λ (n : ℕ). sets (sets (set l i x) (suc i) a) n b) {x = i + suc (length a)} {y = suc i + length a} (omega arith) ∙ sets-append a b (set l i x) (suc i)
-
-module _ (old : List ℕ) (at : ℕ) where
-  pub wrote-none : Wrote old at [] at old
-  wrote-none = record { next = omega arith; out = refl }
-
-  module _ (w : List ℕ) (next : ℕ) (mid : List ℕ) (h : Wrote old at w next mid) where
-    pub wrote-long : length mid ≡ length old
-    wrote-long = ap length (h .out) ∙ length-sets old at w
-
-    pub wrote-then : (v : List ℕ) (x : ℕ) (new : List ℕ) → Wrote mid next v x new → Wrote old at (w ++ v) x new
-    wrote-then v x new k = record {
-      next = omega (arith, k .next, h .next, length-append w v);
-      out = k .out ∙ ap (λ (l : List ℕ). sets l next v) (h .out) ∙ ap (λ (m : ℕ). sets (sets old at w) m v) (h .next) ∙ sets-append w v old at;
-    }
-
-wrote-token : (old : List ℕ) (at t : ℕ) → Wrote old at (t ∷ []) (at + 1) (set old at t)
-wrote-token old at t = record { next = refl; out = refl }
 
 -- a production: w is written for the symbols from a up to i
 pub record Expanding (g : Flat) (choice : List ℕ) (levels a e at : ℕ) (old : List ℕ) (i next : ℕ) (out : List ℕ) : Type 0 where
   pub low : a ≤ i
   pub high : i ≤ e
   pub w : List ℕ
-  pub wrote : Wrote old at w next out
+  pub wrote : Appended old at w out next
   pub whole : filled (expanded (denoted g) (choicesOf choice) levels) (form (g .symbols) a e) ≡ w ++ filled (expanded (denoted g) (choicesOf choice) levels) (form (g .symbols) i e)
   pub rest : allMarked (within (denoted g) (choicesOf choice) levels) (form (g .symbols) i e) ≡ true
 
@@ -56,18 +32,18 @@ module _ (g : Flat) (choice lengths : List ℕ) (levels a e at′ : ℕ) (old : 
   f = expanded (denoted g) (choicesOf choice) levels
 
   pub expanding-start : Expanding g choice levels a e at′ old a at′ old
-  expanding-start = record { low = omega arith; high = ok .rise; w = []; wrote = wrote-none old at′; whole = refl; rest = ok .grounded }
+  expanding-start = record { low = omega arith; high = ok .rise; w = []; wrote = appended-none old at′; whole = refl; rest = ok .grounded }
 
   module _ (i next : ℕ) (out : List ℕ) (x : Expanding g choice levels a e at′ old i next out) where
     -- the room for what is left
     room : next + length (filled f (form (g .symbols) i e)) ≤ length out
-    room = omega (arith, ok .fits, ap length (x .whole), length-append (x .w) (filled f (form (g .symbols) i e)), x .wrote .next, wrote-long old at′ (x .w) next out (x .wrote))
+    room = omega (arith, ok .fits, ap length (x .whole), length-append (x .w) (filled f (form (g .symbols) i e)), x .wrote .next, appended-long (x .wrote))
 
-    pub expanding-end : e ≤ i → Wrote old at′ (filled f (form (g .symbols) a e)) next out
-    expanding-end l = subst (λ z. Wrote old at′ z next out) (sym (x .whole ∙ rw (form-done (g .symbols) i e (x .high) l) (append-nil (x .w)))) (x .wrote)
+    pub expanding-end : e ≤ i → Appended old at′ (filled f (form (g .symbols) a e)) out next
+    expanding-end l = subst (λ z. Appended old at′ z out next) (sym (x .whole ∙ rw (form-done (g .symbols) i e (x .high) l) (append-nil (x .w)))) (x .wrote)
 
     pub expanding-long : length out ≡ length old
-    expanding-long = wrote-long old at′ (x .w) next out (x .wrote)
+    expanding-long = appended-long (x .wrote)
 
     module _ (l : i < e) (s : ℕ) (es : s ≡ at (g .symbols) i) where
       pub expanding-symbol : i < length (g .symbols)
@@ -88,7 +64,7 @@ module _ (g : Flat) (choice lengths : List ℕ) (levels a e at′ : ℕ) (old : 
           low = omega (arith, x .low);
           high = omega arith;
           w = x .w ++ (s ∷ []);
-          wrote = wrote-then old at′ (x .w) next out (x .wrote) (s ∷ []) (next + 1) (set out next s) (wrote-token out next s);
+          wrote = appended-then (x .wrote) (appended-one out next s);
           whole = x .whole ∙ rw front (sym (append-assoc (x .w) (s ∷ []) (filled f (form (g .symbols) (i + 1) e))));
           rest = rw front at (x .rest);
         }
@@ -108,12 +84,12 @@ module _ (g : Flat) (choice lengths : List ℕ) (levels a e at′ : ℕ) (old : 
           fits = omega (arith, room, ap (λ z. length (filled f z)) opens, length-append (f r) (filled f (form (g .symbols) (i + 1) e)));
         }
 
-        pub expanding-on : (to : ℕ) (new : List ℕ) → Wrote out next (f r) to new → Expanding g choice levels a e at′ old (i + 1) to new
+        pub expanding-on : (to : ℕ) (new : List ℕ) → Appended out next (f r) new to → Expanding g choice levels a e at′ old (i + 1) to new
         expanding-on to new h = record {
           low = omega (arith, x .low);
           high = omega arith;
           w = x .w ++ f r;
-          wrote = wrote-then old at′ (x .w) next out (x .wrote) (f r) to new h;
+          wrote = appended-then (x .wrote) h;
           whole = x .whole ∙ rw opens (sym (append-assoc (x .w) (f r) (filled f (form (g .symbols) (i + 1) e))));
           rest = parts .1;
         }
@@ -131,8 +107,8 @@ module _ (g : Flat) (choice lengths : List ℕ) (levels r at′ : ℕ) (out : Li
   pub rule-choice : r < 512
   rule-choice = omega (arith, ok .isRule, ok .led .well .sizes .rules-high)
 
-  pub rule-empty : (n : ℕ) → n ≡ at lengths r → n ≡ 0 → Wrote out at′ (expanded (denoted g) (choicesOf choice) levels r) at′ out
-  rule-empty n en z = rw (ok .led .leads .empty levels r (ok .grounded) (length-entry lengths r rule-length ∙ sym en ∙ z)) (wrote-none out at′)
+  pub rule-empty : (n : ℕ) → n ≡ at lengths r → n ≡ 0 → Appended out at′ (expanded (denoted g) (choicesOf choice) levels r) out at′
+  rule-empty n en z = rw (ok .led .leads .empty levels r (ok .grounded) (length-entry lengths r rule-length ∙ sym en ∙ z)) (appended-none out at′)
 
   left : levels ≡ suc (levels - 1)
   left = level-left (denoted g) (choicesOf choice) levels r (ok .grounded)
@@ -176,5 +152,5 @@ module _ (g : Flat) (choice lengths : List ℕ) (levels r at′ : ℕ) (out : Li
         fits = subst (λ z. at′ + length z ≤ length out) stands (ok .fits);
       }
 
-      pub rule-wrote : (x : ℕ) (new : List ℕ) → Wrote out at′ (filled (expanded (denoted g) (choicesOf choice) (levels - 1)) (form (g .symbols) a e)) x new → Wrote out at′ (expanded (denoted g) (choicesOf choice) levels r) x new
-      rule-wrote x new k = subst (λ z. Wrote out at′ z x new) (sym stands) k
+      pub rule-wrote : (x : ℕ) (new : List ℕ) → Appended out at′ (filled (expanded (denoted g) (choicesOf choice) (levels - 1)) (form (g .symbols) a e)) new x → Appended out at′ (expanded (denoted g) (choicesOf choice) levels r) new x
+      rule-wrote x new k = subst (λ z. Appended out at′ z new x) (sym stands) k

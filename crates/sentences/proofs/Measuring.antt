@@ -1,20 +1,19 @@
 -- A rule's step of the lengths, rounds of it, and what they leave.
 use mathlib.Core.Bool.{Bool, true, false, not, cond, _&&_, _||_, false≢true, true≢false}
 use mathlib.Core.List.{List}
-use mathlib.Core.Logic.{_⊎_, inl, inr}
 use mathlib.Core.Path.{_≡_, refl, sym, ap, _∙_, subst, fun-ext}
-use Prim.Native.Nat.{ℕ, _+_, _-_, _*_, _≤_, _<_, min}
+use Prim.Native.Nat.{ℕ, _+_, _-_, _≤_, _<_, min}
 use native.Mathlib.Decide.{ℕ-discrete, decLt}
 use native.Mathlib.Omega.{arith}
-use lib.Dec.{eqb, leb, ltb}
+use lib.Dec.{eqb, leb}
 use lib.ListN.{length, getD, set, replicate, length-set, length-replicate, getD-replicate, List·getD-eq-default}
 use lib.Seq.{getD-set-same, getD-set-other, ext-getD}
-use borrow.Author.Tests.{leb-true, ltb-true, eqb-true, le-leb, lt-leb, lt-ltb, le-ltb, eq-eqb, ne-eqb, not-true, not-false}
+use borrow.Author.Tests.{leb-true, le-leb, lt-ltb, le-ltb, eq-eqb, ne-eqb}
 use Rattle.theory.specs.Below.{count}
 use Rattle.theory.specs.Fills.{turn, turns, Moves}
-use Rattle.theory.specs.Levels.{Choices, Chosen, above, known, formLength, lengthVisit, lengthCleared, LengthTrue, LengthExact}
+use Rattle.theory.specs.Levels.{known, formLength, lengthVisit, lengthCleared, LengthTrue}
 use Rattle.theory.specs.Rounds.{run}
-use Rattle.theory.specs.Visits.{Costs, allMarked}
+use Rattle.theory.specs.Visits.{allMarked}
 use Rattle.theory.proofs.Bools.{and-split, and-join}
 use Rattle.theory.proofs.Fills.{Filling, turned, Settling, left}
 use Rattle.theory.proofs.Lengths.{LengthFits, length-climb, length-any-order, length-cleared-true}
@@ -26,7 +25,7 @@ use Rattle.costs.proofs.Summing.{default-same}
 use Rattle.tables.specs.Call.{Stepped}
 use Rattle.tables.proofs.Stepping.{Stepping, round-start, round-held, round-on, round-end, settle-start, settle-held, settle-inv, settle-on, settle-end, settle-less}
 use Rattle.sentences.specs.Lent.{choicesOf, lengthsOf}
-use Rattle.sentences.specs.Measuring.{countOf, SymbolCounted, Countable, ChosenBy, LengthReady, LengthBecame, Long, LengthBegun, LengthRounds, LengthSettled, LengthFillable, LengthsDefined, LengthsBy}
+use Rattle.sentences.specs.Measuring.{countOf, Countable, ChosenBy, LengthReady, LengthBecame, Long, LengthBegun, LengthRounds, LengthSettled, LengthFillable, LengthsBy}
 use Rattle.sentences.proofs.Counting.{length-entry}
 
 -- one rule's step

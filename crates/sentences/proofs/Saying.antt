@@ -2,7 +2,7 @@
 use mathlib.Core.Bool.{Bool, true, false, not, _&&_, true≢false}
 use mathlib.Core.List.{List, [], _∷_, _++_}
 use mathlib.Core.Logic.{_⊎_, inl, inr}
-use mathlib.Core.Path.{_≡_, refl, sym, ap, _∙_, subst}
+use mathlib.Core.Path.{_≡_, refl, sym, ap, _∙_}
 use Prim.Native.Nat.{ℕ, _+_, _≤_, _<_}
 use native.Mathlib.Decide.{decLe}
 use native.Mathlib.Omega.{arith}
@@ -13,25 +13,25 @@ use borrow.Author.Tests.{leb-true, le-leb, not-true, not-false}
 use Rattle.theory.specs.Definitions.{Productive, Cost}
 use Rattle.theory.specs.Grammar.{rul}
 use Rattle.theory.specs.Levels.{Length, within, expanded}
-use Rattle.theory.specs.Sentences.{Grounded, Expands, erul}
+use Rattle.theory.specs.Sentences.{Expands, erul}
 use Rattle.theory.proofs.Bools.{and-split, and-join}
 use Rattle.theory.proofs.Cost.{cost-one}
 use Rattle.theory.proofs.Expanding.{expands-expanded, expanded-empty, expanded-length, known-within}
 use Rattle.theory.proofs.Lengths.{length-grounded, grounded-length, length-sentence, length-long}
 use Rattle.theory.proofs.Sentences.{expands-grounded, sentence-of}
 use Rattle.grammar.specs.Flat.{Flat, at, denoted, price}
-use Rattle.grammar.specs.Outcome.{Outcome, answers, refused}
+use Rattle.grammar.specs.Outcome.{answers, refused}
 use Rattle.grammar.proofs.Denoted.{proper}
-use Rattle.rows.specs.Marks.{place, mark}
-use Rattle.rows.proofs.Marks.{row-in}
+use Rattle.rows.specs.Marks.{mark}
 use Rattle.rows.proofs.Row.{row-mark}
 use Rattle.tables.specs.Sizes.{words}
 use Rattle.costs.specs.Lent.{costsOf}
 use Rattle.costs.proofs.Summing.{entry}
+use Rattle.tables.specs.Append.{Appended}
 use Rattle.sentences.specs.Lent.{choicesOf, lengthsOf}
-use Rattle.sentences.specs.Expanding.{Led, RuleReady, Wrote}
-use Rattle.sentences.specs.Query.{Refuses, Writes, Says}
-use Rattle.sentences.specs.Working.{Worked, Finished}
+use Rattle.sentences.specs.Expanding.{RuleReady}
+use Rattle.sentences.specs.Query.{Refuses, Says}
+use Rattle.sentences.specs.Working.{Finished}
 use Rattle.sentences.proofs.Counting.{length-entry}
 
 -- by its own table a rule with a sentence by first choices has a cost
@@ -139,13 +139,13 @@ module _ (g : Flat) (r : ℕ) (row cost choice lengths out : List ℕ) (ok : Fin
             counted : length (expanded (denoted g) (choicesOf choice) (g .rules) r) ≡ l
             counted = expanded-length (denoted g) (price g) c (proper g (ok .well)) (choicesOf choice) (ok .worked .picks .chosen) (lengthsOf lengths) (ok .worked .counts .exact) (g .rules) r inside short
 
-        pub says-it : (n x : ℕ) (to : List ℕ) → n ≡ l → Wrote out 0 (expanded (denoted g) (choicesOf choice) (g .rules) r) x to → Says g c r out (answers n) to
+        pub says-it : (n x : ℕ) (to : List ℕ) → n ≡ l → Appended out 0 (expanded (denoted g) (choicesOf choice) (g .rules) r) to x → Says g c r out (answers n) to
         says-it n x to en k = record {
           none = λ h. absurd (h (marks e));
           dear = λ h s. let w = costs-it .met le in absurd (omega (arith, s (w .0) (w .1), w .2));
           circular = λ i a d h. absurd (h (length-grounded long-it (omega arith)));
           long = λ w y h. absurd (fit w y h);
-          is = λ w y a b. record { number = ap answers (en ∙ sym (length-sentence long-it short y)); tokens = k .out ∙ ap (sets out 0) (sym (expands-expanded (denoted g) (price g) c (proper g (ok .well)) (choicesOf choice) (ok .worked .picks .chosen) y)) ∙ sets-eq w out 0 (omega arith) ∙ ap (λ (i : ℕ). w ++ drop i out) {x = 0 + length w} {y = length w} (omega arith) };
+          is = λ w y a b. record { number = ap answers (en ∙ sym (length-sentence long-it short y)); tokens = k .left ∙ ap (sets out 0) (sym (expands-expanded (denoted g) (price g) c (proper g (ok .well)) (choicesOf choice) (ok .worked .picks .chosen) y)) ∙ sets-eq w out 0 (omega arith) ∙ ap (λ (i : ℕ). w ++ drop i out) {x = 0 + length w} {y = length w} (omega arith) };
         }
           where
             fit : (w : List ℕ) → Expands (denoted g) (price g) c (rul r ∷ []) w → (65535 < length w) ⊎ (length out < length w) → ⊥
@@ -185,7 +185,7 @@ module _ (g : Flat) (r : ℕ) (row cost choice lengths out : List ℕ) (ok : Fin
           pub answer-ready : RuleReady g choice lengths n r 0 out
           answer-ready = rw en (says-ready g r row cost choice lengths out ok (is-mark ∙ not-false b t) (omega (arith, is-cost)) short room)
 
-          pub answer-is : (x : ℕ) (to : List ℕ) → Wrote out 0 (expanded (denoted g) (choicesOf choice) n r) x to → Says g (costsOf cost) r out (answers long) to
+          pub answer-is : (x : ℕ) (to : List ℕ) → Appended out 0 (expanded (denoted g) (choicesOf choice) n r) to x → Says g (costsOf cost) r out (answers long) to
           answer-is x to w = says-it g r row cost choice lengths out ok (is-mark ∙ not-false b t) (omega (arith, is-cost)) short room long x to is-long (rw en at w)
 
         pub answer-15 : (leb long 65535 && leb s (length out)) ≡ false → Says g (costsOf cost) r out (refused 15) out

@@ -1,6 +1,5 @@
 -- Demand 2 for sentences: where the source returns, the length fits and no used production has the place that document 01 names, its result is ours.
 use mathlib.Core.List.{List}
-use mathlib.Core.Path.{_≡_}
 use Prim.Native.Nat.{ℕ, _≤_}
 use lib.ListN.{length}
 use Rattle.theory.specs.Visits.{Costs}

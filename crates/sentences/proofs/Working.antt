@@ -1,8 +1,6 @@
 -- The working tables: what each fill asks, and what they come to.
 use mathlib.Core.List.{List}
-use mathlib.Core.Path.{_≡_}
 use Prim.Native.Nat.{ℕ}
-use lib.ListN.{length}
 use Rattle.grammar.specs.Flat.{Flat}
 use Rattle.costs.specs.Lent.{costsOf}
 use Rattle.costs.specs.Defined.{RowFillable, ProductiveDefined, CostFillable, CostDefined}

@@ -1,9 +1,9 @@
 -- First choices in one pass over the productions.
 use mathlib.Core.List.{List}
 use mathlib.Core.Path.{_≡_}
-use Prim.Native.Nat.{ℕ, _≤_, _<_}
+use Prim.Native.Nat.{ℕ, _<_}
 use lib.ListN.{length, replicate}
-use Rattle.theory.specs.Levels.{Choices, choiceVisit, Chosen}
+use Rattle.theory.specs.Levels.{choiceVisit, Chosen}
 use Rattle.grammar.specs.Flat.{Flat, denoted, price}
 use Rattle.grammar.specs.Well.{WellFormed}
 use Rattle.costs.specs.Lent.{costsOf}

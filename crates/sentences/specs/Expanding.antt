@@ -4,7 +4,6 @@ use mathlib.Core.List.{List, []}
 use mathlib.Core.Path.{_≡_}
 use Prim.Native.Nat.{ℕ, _+_, _≤_, _<_}
 use lib.ListN.{length}
-use lib.Seq.{sets}
 use Rattle.theory.specs.Grammar.{Grammar}
 use Rattle.theory.specs.Levels.{Choices, within, filled, expanded}
 use Rattle.theory.specs.Visits.{Costs, allMarked}
@@ -38,8 +37,3 @@ pub record ProductionReady (g : Flat) (choice lengths : List ℕ) (levels a e at
   pub inside : e ≤ length (g .symbols)
   pub grounded : allMarked (within (denoted g) (choicesOf choice) levels) (form (g .symbols) a e) ≡ true
   pub fits : at + length (filled (expanded (denoted g) (choicesOf choice) levels) (form (g .symbols) a e)) ≤ length out
-
--- the tokens w were written from place `at` on, and nothing else; r is the place after them
-pub record Wrote (old : List ℕ) (at : ℕ) (w : List ℕ) (r : ℕ) (new : List ℕ) : Type 0 where
-  pub next : r ≡ at + length w
-  pub out : new ≡ sets old at w

@@ -2,7 +2,6 @@ use native.Mathlib.Omega.{arith}
 use Prim.Native.Nat.{_+_}
 use Rattle.blocks.proofs.Steps.{taken}
 use Rattle.report.proofs.Sizes.{front-sizes}
-use lib.Seq.{length-take-le}
 use borrow.Author.Needs.{needs}
 use Rattle.report.proofs.fronts_report.Statement.{statement}
 use Rattle.report.proofs.fronts_report.Tie as tie

@@ -5,7 +5,8 @@ use grammar::inner::wide;
 ghost use Rattle.theory.specs.Levels.{filled, expanded};
 ghost use Rattle.grammar.specs.Flat.{flat, denoted, form};
 ghost use Rattle.sentences.specs.Lent.{choicesOf};
-ghost use Rattle.sentences.specs.Expanding.{RuleReady, ProductionReady, Wrote};
+ghost use Rattle.tables.specs.Append.{Appended};
+ghost use Rattle.sentences.specs.Expanding.{RuleReady, ProductionReady};
 
 // Writes rule r's sentence from place `at` on; the place after it. A rule with an empty sentence is passed over.
 pub fn expand_rule(
@@ -22,7 +23,7 @@ pub fn expand_rule(
     out: &mut [u16],
 ) -> usize
     requires { ⌜ RuleReady (flat rules (now owners) (now starts) (now symbols) (now costs)) (now choice) (now lengths) levels r at (now out) ⌝ }
-    ensures { λ x. ⌜ Wrote (now (out .entry)) at (expanded (denoted (flat rules (now (owners .entry)) (now (starts .entry)) (now (symbols .entry)) (now (costs .entry)))) (choicesOf (now (choice .entry))) levels r) x (now (out .exit)) ⌝ }
+    ensures { λ x. ⌜ Appended (now (out .entry)) at (expanded (denoted (flat rules (now (owners .entry)) (now (starts .entry)) (now (symbols .entry)) (now (costs .entry)))) (choicesOf (now (choice .entry))) levels r) (now (out .exit)) x ⌝ }
 {
     if entry_at(lengths, r) == 0 {
         return at;
@@ -62,7 +63,7 @@ fn expand_production(
     out: &mut [u16],
 ) -> usize
     requires { ⌜ ProductionReady (flat rules (now owners) (now starts) (now symbols) (now costs)) (now choice) (now lengths) levels a e at (now out) ⌝ }
-    ensures { λ x. ⌜ Wrote (now (out .entry)) at (filled (expanded (denoted (flat rules (now (owners .entry)) (now (starts .entry)) (now (symbols .entry)) (now (costs .entry)))) (choicesOf (now (choice .entry))) levels) (form (now (symbols .entry)) a e)) x (now (out .exit)) ⌝ }
+    ensures { λ x. ⌜ Appended (now (out .entry)) at (filled (expanded (denoted (flat rules (now (owners .entry)) (now (starts .entry)) (now (symbols .entry)) (now (costs .entry)))) (choicesOf (now (choice .entry))) levels) (form (now (symbols .entry)) a e)) (now (out .exit)) x ⌝ }
 {
     let mut next = at;
     let mut i = a;

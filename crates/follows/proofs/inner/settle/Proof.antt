@@ -1,5 +1,4 @@
 use lib.ListN.{length}
-use borrow.Author.Needs.{needs}
 use Rattle.grammar.specs.Flat.{flat}
 use Rattle.firsts.specs.Lent.{lent as firsts}
 use Rattle.follows.proofs.Moving.{long}

@@ -1,5 +1,5 @@
 use borrow.Author.Needs.{needs}
-use Prim.Native.Nat.{ℕ, _<_}
+use Prim.Native.Nat.{ℕ}
 use native.Mathlib.Omega.{arith}
 use Rattle.lines.proofs.Decimal.{one-room, one-made, less-room, last-room, last-made}
 use borrow.Fn.Kinds.{In}

@@ -1,4 +1,4 @@
-use Rattle.sentences.proofs.Working.{work-productive, work-cost, work-choices, work-lengths, work-done}
+use Rattle.sentences.proofs.Working.{work-lengths, work-done}
 use borrow.Author.Needs.{needs}
 use Rattle.sentences.proofs.inner.work.Statement.{statement}
 use Rattle.sentences.proofs.inner.work.Tie as tie

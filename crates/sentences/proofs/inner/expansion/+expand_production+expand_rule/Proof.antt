@@ -1,9 +1,9 @@
 use mathlib.Core.Path.{refl}
 use borrow.Author.Needs.{needs}
 use native.Mathlib.Omega.{arith}
-use Prim.Native.Nat.{ℕ, _+_, _-_, _*_, _<_}
+use Prim.Native.Nat.{ℕ, _+_, _-_, _*_}
 use Rattle.grammar.specs.Flat.{flat}
-use Rattle.sentences.proofs.Expanding.{Expanding, expanding-start, expanding-end, expanding-long, expanding-symbol, expanding-place, expanding-within, expanding-token, expanding-rule, expanding-on, rule-length, rule-choice, rule-empty, rule-level, rule-start, rule-next, rule-production, rule-wrote}
+use Rattle.sentences.proofs.Expanding.{Expanding, expanding-start, expanding-end, expanding-long, expanding-place, expanding-within, expanding-token, expanding-rule, expanding-on, rule-empty, rule-level, rule-start, rule-next, rule-production, rule-wrote}
 use borrow.Fn.Kinds.{In}
 use borrow.Fn.PlainCycle.{Measures, is, falls, and}
 use Rattle.sentences.proofs.inner.expansion.expand_production.Reads as expand-production

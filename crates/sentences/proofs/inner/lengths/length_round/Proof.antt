@@ -1,5 +1,4 @@
 use Prim.Native.Nat.{_≤_, _-_}
-use mathlib.Core.Path.{_≡_}
 use Rattle.grammar.specs.Flat.{flat}
 use Rattle.sentences.proofs.Measuring.{LengthTurned, length-begin, length-ready, length-on, length-end}
 use borrow.Author.Needs.{needs}

@@ -1,6 +1,5 @@
 use Rattle.grammar.specs.Flat.{flat}
 use Rattle.sentences.proofs.Measuring.{lengthLeft, LengthSettle, length-starts, length-begun, length-less, length-again, length-done}
-use borrow.Author.Needs.{needs}
 use Rattle.sentences.proofs.inner.lengths.length_settle.Statement.{statement}
 use Rattle.sentences.proofs.inner.lengths.length_settle.Tie as tie
 

@@ -1,4 +1,4 @@
-use Rattle.sentences.proofs.Measuring.{choice-in, length-in, length-none, length-start, length-next, length-countable, length-stays, length-writes}
+use Rattle.sentences.proofs.Measuring.{length-none, length-start, length-next, length-countable, length-stays, length-writes}
 use borrow.Author.Needs.{needs}
 use Rattle.sentences.proofs.inner.lengths.length_step.Statement.{statement}
 use Rattle.sentences.proofs.inner.lengths.length_step.Tie as tie

@@ -1,0 +1,258 @@
+"""The 20 calls of bindings/include/boltmarrow.h once more, in plain Python, on arbitrary lists and numbers. They are
+written from document 01, over the definitions and visits of plain.py: here are the tables as words, their lengths and
+the calls' own refusals. A call changes the lists that it is lent, and returns its values or raises plain.Refused.
+"""
+from typing import NamedTuple
+
+import plain
+from plain import MOST, Refused
+
+LISTS = 4096, 4097, 16384, 512  # the lengths of the lists that the file reader takes
+
+
+class Call(NamedTuple):
+    takes: str  # what it takes behind the grammar; row, marks and entries are lent words, room is lent numbers
+    refusals: tuple  # its own; besides, each gives 1 to 6
+    values: int  # the values of an answer
+    make: object
+
+
+def words(count):
+    """The words of one row of so many marks."""
+    return (count + 31) // 32
+
+
+def marks_length(g):
+    return g.rules * words(len(g.costs))
+
+
+def row_length(g):
+    return words(g.rules)
+
+
+def cost_length(g):
+    return g.rules
+
+
+def need(g, tables, mode=1, rules=(), tokens=(), prods=()):
+    """The lowest refusal due of 1 to 11. The tables are pairs of a list and its length as a function of the grammar."""
+    plain.check(g)
+    if any(len(table) != length(g) for table, length in tables):
+        raise Refused(7)
+    if mode not in (1, 2):
+        raise Refused(8)
+    plain.check_rule(g, *rules)
+    if any(t >= len(g.costs) for t in tokens):
+        raise Refused(10)
+    if any(p >= len(g.owners) for p in prods):
+        raise Refused(11)
+
+
+def marked(row, k):
+    return row[k // 32] >> k % 32 & 1
+
+
+def marks(row, count):
+    """The marks of a row, spare bits left out."""
+    return {k for k in range(count) if marked(row, k)}
+
+
+def rows(g, table):
+    """The marks of each rule."""
+    wide = words(len(g.costs))
+    return [marks(table[r * wide : (r + 1) * wide], len(g.costs)) for r in range(g.rules)]
+
+
+def put(table, at, held, count):
+    """The row of words from that place on has these marks; its spare bits stay."""
+    for k in range(count):
+        bit = 1 << k % 32
+        table[at + k // 32] &= ~bit
+        table[at + k // 32] |= bit if k in held else 0
+
+
+def put_rows(g, table, held):
+    for r in range(g.rules):
+        put(table, r * words(len(g.costs)), held[r], len(g.costs))
+
+
+def clear(table, value=0):
+    table[:] = [value] * len(table)
+
+
+def check(g):
+    need(g, [])
+    return [0]
+
+
+def production(g, p):
+    need(g, [], prods=[p])
+    return [g.starts[p], g.starts[p + 1] - g.starts[p]]
+
+
+def mark(g, table, rule, token):
+    need(g, [(table, marks_length)], rules=[rule], tokens=[token])
+    return [int(token in rows(g, table)[rule])]
+
+
+def rule_mark(g, row, rule):
+    need(g, [(row, row_length)], rules=[rule])
+    return [marked(row, rule)]
+
+
+def need_first(g, first, empty, **numbers):
+    need(g, [(first, marks_length), (empty, row_length)], **numbers)
+
+
+def first_clear(g, first, empty):
+    need_first(g, first, empty)
+    clear(first)
+    clear(empty)
+    return [0]
+
+
+def first_visit(g, p, first, empty):
+    need_first(g, first, empty, prods=[p])
+    held, vanish = rows(g, first), marks(empty, g.rules)
+    changed = plain.visit_first(g, p, held, vanish)
+    put_rows(g, first, held)
+    put(empty, 0, vanish, g.rules)
+    return [int(changed)]
+
+
+def first_fill(g, first, empty):
+    first_clear(g, first, empty)
+    put_rows(g, first, plain.firsts(g))
+    put(empty, 0, plain.empties(g), g.rules)
+    return [0]
+
+
+def has_path(g, a, b):
+    need(g, [], rules=[a, b])
+    return [int(plain.has_path(g, a, b))]
+
+
+def productive_clear(g, row):
+    need(g, [(row, row_length)])
+    clear(row)
+    return [0]
+
+
+def productive_visit(g, p, row):
+    need(g, [(row, row_length)], prods=[p])
+    held = marks(row, g.rules)
+    changed = plain.visit_productive(g, p, held)
+    put(row, 0, held, g.rules)
+    return [int(changed)]
+
+
+def productive_fill(g, row):
+    productive_clear(g, row)
+    put(row, 0, plain.productives(g), g.rules)
+    return [0]
+
+
+def cost_clear(g, cost):
+    need(g, [(cost, cost_length)])
+    clear(cost, MOST + 1)
+    return [0]
+
+
+def cost_visit(g, p, cost):
+    need(g, [(cost, cost_length)], prods=[p])
+    return [int(plain.visit_cost(g, p, cost))]
+
+
+def cost_fill(g, cost):
+    cost_clear(g, cost)
+    cost[:] = plain.costs(g)
+    return [0]
+
+
+def min_sentence_cost(g, rule, productive, cost):
+    need(g, [(productive, row_length), (cost, cost_length)], rules=[rule])
+    productive_fill(g, productive)
+    cost_fill(g, cost)
+    return [plain.sentence_cost(g, rule)]
+
+
+def follow_clear(g, follow):
+    need(g, [(follow, marks_length)])
+    clear(follow)
+    put(follow, 0, {g.eof}, len(g.costs))
+    return [0]
+
+
+def need_follow(g, follow, first, empty, **numbers):
+    need(g, [(follow, marks_length), (first, marks_length), (empty, row_length)], **numbers)
+
+
+def follow_visit(g, mode, p, follow, first, empty):
+    need_follow(g, follow, first, empty, mode=mode, prods=[p])
+    held = rows(g, follow)
+    changed = plain.visit_follow(g, mode, p, held, rows(g, first), marks(empty, g.rules))
+    put_rows(g, follow, held)
+    return [int(changed)]
+
+
+def follow_fill(g, mode, follow, first, empty):
+    need_follow(g, follow, first, empty, mode=mode)
+    first_fill(g, first, empty)
+    clear(follow)
+    put_rows(g, follow, plain.follows(g, mode))
+    return [0]
+
+
+def min_sentence(g, rule, productive, cost, lengths, out):
+    need(g, [(productive, row_length), (cost, cost_length), (lengths, cost_length)], rules=[rule])
+    productive_fill(g, productive)
+    cost_fill(g, cost)
+    lengths[:] = plain.lengths(g)
+    sentence = plain.sentence(g, rule, len(out))
+    out[: len(sentence)] = sentence
+    return [len(sentence)]
+
+
+def read_blocks(file, *lists):
+    if tuple(len(each) for each in lists) != LISTS:
+        raise Refused(7)
+    g = plain.read_tables(bytes(file))
+    for each, front in zip(lists, (g.owners, g.starts, g.symbols, g.costs)):
+        each[: len(front)] = front
+    plain.check(g)
+    return [g.rules, len(g.costs), len(g.owners), len(g.symbols)]
+
+
+# In the order of the driver's table (tools/driver/calls.c).
+CALLS = {
+    "check": Call("", (), 1, check),
+    "production": Call("prod", (11,), 2, production),
+    "mark": Call("marks rule token", (7, 9, 10), 1, mark),
+    "rule_mark": Call("row rule", (7, 9), 1, rule_mark),
+    "first_clear": Call("marks row", (7,), 1, first_clear),
+    "first_visit": Call("prod marks row", (7, 11), 1, first_visit),
+    "first_fill": Call("marks row", (7,), 1, first_fill),
+    "has_path": Call("rule rule", (9,), 1, has_path),
+    "productive_clear": Call("row", (7,), 1, productive_clear),
+    "productive_visit": Call("prod row", (7, 11), 1, productive_visit),
+    "productive_fill": Call("row", (7,), 1, productive_fill),
+    "cost_clear": Call("entries", (7,), 1, cost_clear),
+    "cost_visit": Call("prod entries", (7, 11), 1, cost_visit),
+    "cost_fill": Call("entries", (7,), 1, cost_fill),
+    "min_sentence_cost": Call("rule row entries", (7, 9, 12, 13), 1, min_sentence_cost),
+    "follow_clear": Call("marks", (7,), 1, follow_clear),
+    "follow_visit": Call("mode prod marks marks row", (7, 8, 11), 1, follow_visit),
+    "follow_fill": Call("mode marks marks row", (7, 8), 1, follow_fill),
+    "min_sentence": Call("rule row entries entries room", (7, 9, 12, 13, 14, 15), 1, min_sentence),
+    "read_blocks": Call("file and four lists, no grammar", (7, 20, 21, 22, 23), 4, read_blocks),
+}
+
+
+def answer(name, parameters):
+    """The words of a call's answer: the refusal, 0 for none, and its values, 0 beside a refusal. The lists among the
+    parameters are left as the call leaves them."""
+    call = CALLS[name]
+    try:
+        return [0, *call.make(*parameters)]
+    except Refused as why:
+        return [why.number] + [0] * call.values

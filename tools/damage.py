@@ -1,0 +1,273 @@
+"""Holds the library, by target/c/calls, to tools/calls.py over random calls, most of them damaged: bin/damage.
+
+    tools/damage.py CALLS SEED PROGRAM..       PROGRAM: what runs target/c/calls
+
+A call's grammar is of a shape of tools/grammars.py, as it is or with refusals made due, one or two, or a list cut,
+lengthened, emptied or with an entry replaced. Tables hold anything, spare bits and entries above 65536 included, and
+may be of a wrong length; numbers may be out of range, room short. A block file has what a file can have wrong. The
+answer and every element of every list must be equal. It prints how often each call gave each refusal, 0 for an answer;
+it exits with 1 if an answer differs, or if of the usual number of calls none gave some refusal that the call can give.
+"""
+import array
+import collections
+import copy
+import itertools
+import random
+import struct
+import subprocess
+import sys
+
+sys.dont_write_bytecode = True
+import calls
+import grammars
+import plain
+from plain import MOST
+
+USUAL = 100_000
+BATCH = 1000
+WORD = (1 << 32) - 1
+ENTRIES = 0, 1, 254, 65534, MOST, MOST + 1, MOST + 2, WORD
+
+# Shapes whose answers take the plain side some milliseconds or more are drawn less often.
+SLOW = ["long_sentences", "single_file", "many_rules", "wide_both", "wide_tokens"]
+QUICK = [name for name in grammars.shapes if name not in SLOW and name not in grammars.large]
+# Shapes whose sentences are refused, and the calls that refuse them.
+HARD = ["no_sentence", "dear", "dear_flat", "unit_cycles"]
+SENTENCES = ["min_sentence_cost", "min_sentence"]
+# The calls to draw from: more of those with many refusals. File reads have the longest lists.
+DRAWN = [name for name in calls.CALLS if name != "read_blocks"] * 2 + SENTENCES * 6 + ["read_blocks"] * 3
+
+
+# Grammars.
+
+
+def edited(draw, items, most):
+    """A list one shorter or longer, without entries, or with another entry somewhere."""
+    entry = draw.choice((0, 1, len(items), most, draw.randint(0, most)))
+    return draw.choice((items[:-1], items[1:], items + [entry], [], grammars.replaced(draw, items, entry)))
+
+
+def edited_grammar(draw, g):
+    """The grammar with one list edited."""
+    name = draw.choice(("owners", "starts", "symbols", "costs"))
+    return g._replace(**{name: edited(draw, getattr(g, name), 255 if name == "costs" else MOST)})
+
+
+def any_grammar(draw, quick=QUICK):
+    """A grammar of some shape, as it is in two of three, else damaged."""
+    g = grammars.shapes[draw.choice(quick if draw.random() < 0.97 else SLOW)](draw)
+    chance = draw.random()
+    if chance < 0.67:
+        return g
+    if chance < 0.9:
+        return grammars.damaged(draw, g, draw.sample(range(1, 7), draw.randint(1, 2)))
+    return edited_grammar(draw, g)
+
+
+# Parameters behind the grammar.
+
+
+def number_below(draw, count):
+    """Below the count in most cases; else the count, the largest number, or any."""
+    if count and draw.random() < 0.85:
+        return draw.randrange(count)
+    return draw.choice((min(count, MOST), MOST, draw.randint(0, MOST)))
+
+
+def any_mode(draw):
+    return draw.choice((1, 2)) if draw.random() < 0.85 else draw.choice((0, 3, MOST, draw.randint(0, MOST)))
+
+
+def any_length(draw, length):
+    """The length due in most cases; else one less or more, none, or twice as much."""
+    if draw.random() < 0.9:
+        return length
+    return draw.choice((max(length - 1, 0), length + 1, 0, 2 * length))
+
+
+def any_marks(draw, length):
+    """Words of no, all, some or few marks, with their spare bits."""
+    length = any_length(draw, length)
+    kind = draw.randrange(4)
+    if kind < 2:
+        return [WORD * kind] * length
+    few = WORD if kind == 2 else 0
+    return [draw.getrandbits(32) & (few or draw.getrandbits(32) & draw.getrandbits(32)) for _ in range(length)]
+
+
+def any_entries(draw, length):
+    """Costs or lengths: none known, edges, or anything."""
+    length = any_length(draw, length)
+    if draw.random() < 0.2:
+        return [MOST + 1] * length
+    return [draw.choice((draw.choice(ENTRIES), draw.randint(0, 9), draw.getrandbits(32))) for _ in range(length)]
+
+
+def any_room(draw, g, rule):
+    """Room for the output: as long as the sentence, if there is one, one shorter or longer, or any."""
+    try:
+        exact = len(plain.sentence(g, rule))
+    except plain.Refused:
+        exact = draw.randint(0, 9)
+    length = draw.choice((exact, exact, max(exact - 1, 0), exact + 1, 0, exact + draw.randint(0, 9)))
+    return [draw.randint(0, MOST) for _ in range(length)]
+
+
+# By the words of calls.Call.takes: of a random.Random, the grammar and the parameters so far.
+PARAMETERS = {
+    "rule": lambda draw, g, _: number_below(draw, g.rules),
+    "token": lambda draw, g, _: number_below(draw, len(g.costs)),
+    "prod": lambda draw, g, _: number_below(draw, len(g.owners)),
+    "mode": lambda draw, g, _: any_mode(draw),
+    "marks": lambda draw, g, _: any_marks(draw, calls.marks_length(g)),
+    "row": lambda draw, g, _: any_marks(draw, calls.row_length(g)),
+    "entries": lambda draw, g, _: any_entries(draw, calls.cost_length(g)),
+    "room": lambda draw, g, before: any_room(draw, g, before[0]),
+}
+
+
+def parameters(draw, name, g):
+    """What is asked and lent behind the grammar."""
+    given = []
+    for word in calls.CALLS[name].takes.split():
+        given.append(PARAMETERS[word](draw, g, given))
+    return given
+
+
+# Block files.
+
+
+def block(number, payload):
+    body = struct.pack("<H", number) + payload
+    return body + struct.pack("<H", sum(body) % 65536)
+
+
+def any_counts(draw, counts):
+    """The counts, or with one of them at or beyond a limit."""
+    if draw.random() < 0.9:
+        return counts
+    return grammars.replaced(draw, counts, draw.choice((0, 1, 2, 512, 513, 4096, 4097, 16384, 16385, MOST)))
+
+
+def payload_of(draw, g):
+    """The payload that says a grammar, with zeros to the end of its last block; now and then another byte."""
+    sizes = [g.rules, len(g.costs), len(g.owners), len(g.symbols)]
+    numbers = any_counts(draw, sizes) + g.owners + g.starts + g.symbols
+    said = struct.pack(f"<{len(numbers)}H", *numbers) + bytes(g.costs)
+    payload = bytearray(said.ljust(-(-len(said) // 508) * 508, b"\0"))
+    if draw.random() < 0.2:
+        payload[draw.choice((-1, draw.randrange(len(payload)))) % len(payload)] = draw.choice((0, 1, 255))
+    return payload
+
+
+def any_file(draw):
+    """The bytes of a block file, right or wrong."""
+    g = any_grammar(draw)
+    payload = payload_of(draw, g)
+    if draw.random() < 0.15:
+        payload = draw.choice((payload[:-508], payload + bytes(508), payload * 4, payload.ljust(98 * 508, b"\0"),
+                               payload.ljust(99 * 508, b"\0"), draw.randbytes(508)))
+    parts = [payload[k : k + 508] for k in range(0, len(payload), 508)]
+    wrong = draw.randrange(len(parts) or 1) if draw.random() < 0.12 else None
+    data = bytearray().join(block(k + (k == wrong), bytes(part)) for k, part in enumerate(parts))
+    if data and draw.random() < 0.15:
+        data[draw.choice((510, 511, draw.randrange(len(data))))] ^= draw.choice((1, 128, 255))
+    if draw.random() < 0.15:
+        data = draw.choice((data[:-1], data + b"\0", data[:511], data[:0], draw.randbytes(512)))
+    return data
+
+
+def any_lists(draw):
+    """Four lists of the reader's lengths; one of another length now and then."""
+    lengths = list(calls.LISTS)
+    if draw.random() < 0.15:
+        at = draw.randrange(4)
+        lengths[at] = draw.choice((lengths[at] - 1, lengths[at] + 1, 0))
+    return [[draw.randint(0, 255)] * length for length in lengths]
+
+
+def any_call(draw):
+    """A call's name and parameters, the grammar's five as one."""
+    name = draw.choice(DRAWN)
+    if name == "read_blocks":
+        return name, [list(any_file(draw)), *any_lists(draw)]
+    g = any_grammar(draw, HARD if name in SENTENCES and draw.random() < 0.6 else QUICK)
+    return name, [g, *parameters(draw, name, g)]
+
+
+# The comparison.
+
+
+def flat(given):
+    """The parameters one by one."""
+    return list(itertools.chain(*([*each] if isinstance(each, plain.Grammar) else [each] for each in given)))
+
+
+def sent(name, given):
+    """The call as the driver reads it."""
+    numbers = [list(calls.CALLS).index(name)]
+    for each in flat(given):
+        numbers += [len(each), *each] if isinstance(each, list) else [each]
+    return array.array("I", numbers)
+
+
+def expected(name, given):
+    """What the driver should write: the answer, and every list as the call leaves it."""
+    left = copy.deepcopy(given)
+    found = calls.answer(name, left)
+    return array.array("I", found + list(itertools.chain(*(each for each in flat(left) if isinstance(each, list)))))
+
+
+def shown(name, given, due, seen):
+    """A call that differs."""
+    at = next((k for k, (a, b) in enumerate(zip(due, seen)) if a != b), min(len(due), len(seen)))
+    words = f"word {at} of the answer and the lists is {seen[at : at + 1]} and not {due[at : at + 1]}"
+    return f"{name}: {words}: {given}"[:3000]
+
+
+def batch(draw, count, program, counts):
+    """So many calls; what is wrong with them."""
+    made = [any_call(draw) for _ in range(count)]
+    due = [expected(*call) for call in made]
+    asked = b"".join(sent(*call).tobytes() for call in made)
+    done = subprocess.run(program, input=asked, stdout=subprocess.PIPE, check=True)
+    seen = array.array("I", done.stdout)
+    wrong, at = [], 0
+    for call, words in zip(made, due):
+        counts[call[0], words[0]] += 1
+        if seen[at : at + len(words)] != words:
+            wrong.append(shown(*call, words, seen[at : at + len(words)]))
+        at += len(words)
+    return wrong if at == len(seen) else wrong + [f"{len(seen)} words and not {at}"]
+
+
+def table(counts):
+    """The counts by call and by refusal, 0 for an answer."""
+    numbers = sorted({number for _, number in counts})
+    yield f"{'':18}" + "".join(f"{number:>6}" for number in numbers)
+    for name in calls.CALLS:
+        yield f"{name:18}" + "".join(f"{counts[name, number] or '':>6}" for number in numbers)
+
+
+def never(counts):
+    """What a call can answer by document 01 and did not."""
+    for name, call in calls.CALLS.items():
+        for number in (0, *range(1, 7), *call.refusals):
+            if not counts[name, number]:
+                yield f"{name} never gave {number}"
+
+
+def main(words):
+    count, seed, program = int(words[0]), int(words[1]), words[2:]
+    draw, counts, wrong = random.Random(seed), collections.Counter(), []
+    for start in range(0, count, BATCH):
+        wrong += batch(draw, min(BATCH, count - start), program, counts)
+    print("\n".join(table(counts)))
+    missing = list(never(counts)) if count >= USUAL else []
+    print("\n".join(missing + wrong[:10]), end="\n" if missing or wrong else "")
+    print(f"{sum(counts.values())} calls, {len(wrong)} wrong")
+    return 1 if wrong or missing else 0
+
+
+if __name__ == "__main__":
+    sys.exit(main(sys.argv[1:]))

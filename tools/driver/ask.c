@@ -1,0 +1,168 @@
+/* Asks the library about flat grammars: standard input has one a line, and standard output a line of JSON for each.
+ * Both have the form of tools/oracle/oracle.rs, with these differences: "costs" has an outcome for each rule,
+ * "corrected" is FOLLOW of mode 2, and an outcome is {"returned": [number..]} or {"refused": number}. A refused grammar
+ * has the outcome of boltmarrow_check alone.
+ */
+#include <stdio.h>
+
+#include "boltmarrow.h"
+
+enum { RULES = 1024, PRODS = 8192, SYMBOLS = 32768, TOKENS = 1024, ROOM = 65535 };
+
+static uint32_t rules, tokens, prods, length; /* R, T, P, N */
+static uint16_t owners[PRODS], starts[PRODS + 1], symbols[SYMBOLS];
+static uint8_t costs[TOKENS];
+static uint32_t first[RULES * TOKENS / 32], follow[RULES * TOKENS / 32];
+static uint32_t empty[RULES / 32], productive[RULES / 32], prices[RULES], lengths[RULES];
+static uint16_t sentence[ROOM];
+
+#define GRAMMAR (uint16_t)rules, owners, prods, starts, prods + 1, symbols, length, costs, tokens
+#define MARKS ((size_t)rules * ((tokens + 31) / 32))
+#define ROW ((size_t)(rules + 31) / 32)
+
+/* The next number on standard input, -1 at its end. */
+static long number(void) {
+    unsigned found;
+    return scanf("%u", &found) == 1 ? (long)found : -1;
+}
+
+static int numbers(uint16_t *to, size_t count) {
+    for (size_t k = 0; k < count; k++) {
+        long found = number();
+        if (found < 0 || found > 65535) return 0;
+        to[k] = (uint16_t)found;
+    }
+    return 1;
+}
+
+/* Reads a grammar: 1 if there is one, 0 at the end of the input, -1 if a line is no grammar. */
+static int read_grammar(void) {
+    static uint16_t sizes[4], bytes[TOKENS];
+    long next = number();
+    if (next < 0) return 0;
+    rules = (uint32_t)next;
+    if (!numbers(sizes, 3)) return -1;
+    tokens = sizes[0], prods = sizes[1], length = sizes[2];
+    if (rules > RULES || tokens > TOKENS || prods > PRODS || length > SYMBOLS) return -1;
+    if (!numbers(owners, prods) || !numbers(starts, prods + 1) || !numbers(symbols, length) || !numbers(bytes, tokens))
+        return -1;
+    for (uint32_t t = 0; t < tokens; t++) costs[t] = (uint8_t)bytes[t];
+    return 1;
+}
+
+static const char *comma(uint32_t k) { return k ? "," : ""; }
+
+static void refused(uint32_t refusal) { printf("{\"refused\":%u}", refusal); }
+
+static void outcome(boltmarrow_answer answer) {
+    if (answer.refusal)
+        refused(answer.refusal);
+    else
+        printf("{\"returned\":[%u]}", answer.value);
+}
+
+static void print_marks(const char *name, const uint32_t *table) {
+    printf("\"%s\":[", name);
+    for (uint16_t r = 0; r < rules; r++) {
+        printf("%s[", comma(r));
+        uint32_t shown = 0;
+        for (uint16_t t = 0; t < tokens; t++)
+            if (boltmarrow_mark(GRAMMAR, table, MARKS, r, t).value) printf("%s%u", comma(shown++), t);
+        printf("]");
+    }
+    printf("],");
+}
+
+static void print_follow(const char *name, uint16_t mode) {
+    boltmarrow_follow_fill(GRAMMAR, mode, follow, MARKS, first, MARKS, empty, ROW);
+    print_marks(name, follow);
+}
+
+static void print_empty(void) {
+    printf("\"empty\":[");
+    for (uint16_t r = 0; r < rules; r++)
+        printf("%s%u", comma(r), boltmarrow_rule_mark(GRAMMAR, empty, ROW, r).value);
+    printf("],");
+}
+
+static void print_paths(void) {
+    printf("\"path\":[");
+    for (uint16_t from = 0; from < rules; from++) {
+        printf("%s[", comma(from));
+        for (uint16_t to = 0; to < rules; to++)
+            printf("%s%u", comma(to), boltmarrow_has_path(GRAMMAR, from, to).value);
+        printf("]");
+    }
+    printf("],");
+}
+
+static void print_beyond(void) {
+    boltmarrow_stretch stretch = boltmarrow_production(GRAMMAR, (uint16_t)prods);
+    printf("\"beyond\":[");
+    outcome((boltmarrow_answer){stretch.refusal, stretch.len});
+    printf(",");
+    outcome(boltmarrow_has_path(GRAMMAR, (uint16_t)rules, 0));
+    printf(",");
+    outcome(boltmarrow_has_path(GRAMMAR, 0, (uint16_t)rules));
+    printf("],");
+}
+
+static void print_costs(void) {
+    printf("\"costs\":[");
+    for (uint16_t r = 0; r < rules; r++) {
+        printf("%s", comma(r));
+        outcome(boltmarrow_min_sentence_cost(GRAMMAR, r, productive, ROW, prices, rules));
+    }
+    printf("],");
+}
+
+static void print_sentence(uint16_t rule) {
+    boltmarrow_answer answer = boltmarrow_min_sentence(GRAMMAR, rule, productive, ROW, prices, rules, lengths, rules,
+                                                       sentence, ROOM);
+    if (answer.refusal) {
+        refused(answer.refusal);
+        return;
+    }
+    printf("{\"returned\":[");
+    for (uint32_t k = 0; k < answer.value; k++) printf("%s%u", comma(k), sentence[k]);
+    printf("]}");
+}
+
+static void print_sentences(void) {
+    printf("\"sentences\":[");
+    for (uint16_t r = 0; r < rules; r++) {
+        printf("%s", comma(r));
+        print_sentence(r);
+    }
+    printf("]");
+}
+
+static void answer(void) {
+    boltmarrow_answer check = boltmarrow_check(GRAMMAR);
+    if (check.refusal) {
+        outcome(check);
+        printf("\n");
+        return;
+    }
+    printf("{");
+    boltmarrow_first_fill(GRAMMAR, first, MARKS, empty, ROW);
+    print_marks("first", first);
+    print_empty();
+    print_follow("follow", 1);
+    print_follow("corrected", 2);
+    print_paths();
+    print_beyond();
+    print_costs();
+    print_sentences();
+    printf("}\n");
+}
+
+int main(void) {
+    int found;
+    while ((found = read_grammar()) > 0) {
+        answer();
+        fflush(stdout);
+    }
+    if (found < 0) fprintf(stderr, "ask: a line is no grammar\n");
+    return found < 0 ? 2 : 0;
+}

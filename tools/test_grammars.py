@@ -1,0 +1,99 @@
+#!/usr/bin/env python3
+"""Tests of grammars.py and calls.py. Run alone, or with the others of this folder:
+python3 -m unittest discover -s tools"""
+import itertools
+import pathlib
+import random
+import sys
+import unittest
+
+sys.dont_write_bytecode = True
+import calls
+import grammars
+import plain
+
+EXAMPLES = pathlib.Path(__file__).resolve().parent.parent / "examples"
+G1 = plain.read((EXAMPLES / "g1.blk").read_bytes())
+
+
+class Small(unittest.TestCase):
+    def test_count(self):
+        every = list(grammars.small())
+        self.assertEqual(len(every), 20559)
+        self.assertEqual(len({grammars.line(g) for g in every}), 20559)
+        self.assertTrue(all(plain.refusal(g) == 0 for g in every))
+
+
+class Shapes(unittest.TestCase):
+    def test_well_formed(self):
+        for name, shape in grammars.shapes.items():
+            for seed in range(2 if name in grammars.large else 50):
+                self.assertEqual(plain.refusal(shape(random.Random(seed))), 0, f"{name} {seed}")
+
+    def test_seed(self):
+        for name, shape in grammars.shapes.items():
+            self.assertEqual(shape(random.Random(5)), shape(random.Random(5)), name)
+
+    def test_limits(self):
+        g = grammars.at_limits(random.Random(1))
+        self.assertEqual((g.rules, len(g.costs), len(g.owners), len(g.symbols)), (512, 512, 4096, 16384))
+
+    def test_line(self):
+        self.assertEqual(grammars.line(G1), "4 4 6 7 1 2 2 3 3 0 0 3 4 4 6 6 7 32770 0 32771 2 1 0 32769 1 1 1 1")
+
+
+class Damage(unittest.TestCase):
+    def test_due(self):
+        draw = random.Random(1)
+        for numbers in itertools.chain(*(itertools.combinations(range(1, 7), size) for size in (1, 2))):
+            seen = {plain.refusal(grammars.damaged(draw, grammars.anything(draw), numbers)) for _ in range(100)}
+            self.assertIn(numbers[0], seen)
+            self.assertTrue(seen <= set(range(1, numbers[0] + 1)), f"{numbers}: {seen}")
+
+
+class Calls(unittest.TestCase):
+    """G1 by document 01, in words."""
+
+    def test_first(self):
+        first, empty = [9] * 4, [1 << 31]
+        self.assertEqual(calls.answer("first_fill", [G1, first, empty]), [0, 0])
+        self.assertEqual((first, empty), ([5, 5, 4, 2], [12]))
+
+    def test_follow(self):
+        follow, first, empty = [0] * 4, [0] * 4, [0]
+        self.assertEqual(calls.answer("follow_fill", [G1, 2, follow, first, empty]), [0, 0])
+        self.assertEqual(follow, [8, 8, 1, 8])
+
+    def test_spare_bits_stay(self):
+        first, empty = [1 << 4] * 4, [1 << 4]
+        self.assertEqual(calls.answer("first_visit", [G1, 1, first, empty]), [0, 1])
+        self.assertEqual((first, empty), ([16, 16, 20, 16], [16]))
+
+    def test_sentence(self):
+        productive, cost, lengths, out = [0], [0] * 4, [0] * 4, [7, 7]
+        self.assertEqual(calls.answer("min_sentence", [G1, 0, productive, cost, lengths, out]), [0, 1])
+        self.assertEqual((productive, cost, lengths, out), ([15], [1, 1, 0, 0], [1, 1, 0, 0], [0, 7]))
+
+    def test_room(self):
+        productive, cost, lengths = [0], [0] * 4, [0] * 4
+        self.assertEqual(calls.answer("min_sentence", [G1, 0, productive, cost, lengths, []]), [15, 0])
+        self.assertEqual(cost, [1, 1, 0, 0])
+
+    def test_order(self):
+        tables = [0] * 3, [0] * 4, [0]
+        self.assertEqual(calls.answer("follow_visit", [G1, 3, 99, *tables]), [7, 0])
+        self.assertEqual(calls.answer("follow_visit", [G1, 3, 99, [0] * 4, *tables[1:]]), [8, 0])
+        self.assertEqual(calls.answer("follow_visit", [G1, 1, 6, [0] * 4, *tables[1:]]), [11, 0])
+
+    def test_production(self):
+        self.assertEqual(calls.answer("production", [G1, 3]), [0, 4, 2])
+        self.assertEqual(calls.answer("production", [G1, 6]), [11, 0, 0])
+
+    def test_file(self):
+        lists = [[9] * length for length in calls.LISTS]
+        self.assertEqual(calls.answer("read_blocks", [list((EXAMPLES / "g1.blk").read_bytes()), *lists]), [0, 4, 4, 6, 7])
+        self.assertEqual(lists[0][:7], [1, 2, 2, 3, 3, 0, 9])
+
+
+if __name__ == "__main__":
+    unittest.main()

@@ -8,16 +8,7 @@ die() {
     exit 2
 }
 
-rt=$(command -v rt) || die 'the Rattle kit is not installed: its command rt is not on the path'
-library=target/staticlib/libboltmarrow.a
-if [ ! -e "$library" ] || [ -n "$(find crates crates.txt -type f -newer "$library" | head -n 1)" ]; then
-    mkdir -p target
-    rt staticlib boltmarrow </dev/null >target/staticlib.log 2>&1 || {
-        tail -n 5 target/staticlib.log >&2
-        die 'the library is not proved: target/staticlib.log has the whole'
-    }
-    touch "$library"
-fi
+. tools/library.sh
 kit=${RATTLE_HOME:-$(dirname "$(dirname "$(readlink -f "$rt")")")}
 tools=$kit/on/$(uname -m)/toolchain
 [ -d "$tools" ] || tools=$kit/toolchain

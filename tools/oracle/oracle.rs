@@ -12,6 +12,8 @@
 //! "out of memory". Beyond the numbers are production P, the path from rule R to 0 and that from 0 to R. Costs and
 //! sentences are asked in child processes. A child answers one question after the other until one of them runs out of
 //! the limits below; the next child goes on behind it.
+mod text;
+
 use std::fmt::{Debug, Display};
 use std::fs::File;
 use std::io::{self, BufRead, Read};
@@ -62,22 +64,10 @@ impl Flat {
         [others, own].concat()
     }
 
-    /// The text that the parser's stand-in reads. Rule 0 and eof are not in it: the crate adds them.
+    /// The text that the parser's stand-in reads.
     fn text(&self) -> String {
-        let mut lines: Vec<String> = (0..self.costs.len() - 1).map(|t| format!("token t{t}")).collect();
-        lines.extend((1..self.rules).map(|r| format!("rule r{r}")));
-        for prod in self.order() {
-            if self.owners[prod] == 0 {
-                lines.push(format!("start r{}", self.body(prod)[0] - RULE));
-                continue;
-            }
-            let names = self.body(prod).iter().map(|&s| match s {
-                RULE.. => format!(" rule:r{}", s - RULE),
-                _ => format!(" token:t{s}"),
-            });
-            lines.push(format!("prod r{}{}", self.owners[prod], names.collect::<String>()));
-        }
-        lines.join("\n")
+        let prods = self.order().into_iter().map(|prod| (self.owners[prod], self.body(prod)));
+        text::text(self.rules, self.costs.len(), prods)
     }
 }
 

@@ -1,0 +1,59 @@
+//! Makes a [`Grammar`] from cfgrammar's `YaccGrammar`, through its public methods.
+//!
+//! No number changes, since cfgrammar's numbering already is what document 01 asks for: the start is rule 0, eof is the
+//! last token, and each rule's productions have rising numbers. The start's production comes after those of the text;
+//! document 01 takes it anywhere.
+#![deny(missing_docs, unsafe_code)]
+
+use boltmarrow::{Grammar, Refusal};
+use cfgrammar::yacc::YaccGrammar;
+use cfgrammar::{RIdx, Symbol, TIdx};
+use num_traits::{AsPrimitive, PrimInt, Unsigned};
+
+/// The flat grammar of `grm`, with a cost for each token. Refusal 1 where `grm` is over document 01's limits; a
+/// `YaccGrammar` gives no other.
+///
+/// # Panics
+///
+/// If `grm` numbers the start or eof otherwise, which cfgrammar 0.15 does not.
+pub fn flatten<StorageT, F>(grm: &YaccGrammar<StorageT>, token_cost: F) -> Result<Grammar, Refusal>
+where
+    StorageT: 'static + PrimInt + Unsigned,
+    usize: AsPrimitive<StorageT>,
+    F: Fn(TIdx<StorageT>) -> u8,
+{
+    assert_eq!(usize::from(grm.start_rule_idx()), 0, "the start is rule 0");
+    assert_eq!(usize::from(grm.eof_token_idx()) + 1, usize::from(grm.tokens_len()), "eof is the last token");
+    let (mut owners, mut starts, mut symbols) = (vec![], vec![0], vec![]);
+    for pidx in grm.iter_pidxs() {
+        owners.push(small(grm.prod_to_rule(pidx))?);
+        for symbol in grm.prod(pidx) {
+            symbols.push(flat_symbol(*symbol)?);
+        }
+        starts.push(small(symbols.len())?);
+    }
+    Grammar::new(small(grm.rules_len())?, owners, starts, symbols, grm.iter_tidxs().map(token_cost).collect())
+}
+
+/// The rule's number, to ask about the flattened grammar.
+pub fn rule<StorageT: PrimInt + Unsigned>(ridx: RIdx<StorageT>) -> boltmarrow::RIdx {
+    boltmarrow::RIdx(small(ridx).unwrap_or(u16::MAX))
+}
+
+/// The token's number, to ask about the flattened grammar.
+pub fn token<StorageT: PrimInt + Unsigned>(tidx: TIdx<StorageT>) -> boltmarrow::TIdx {
+    boltmarrow::TIdx(small(tidx).unwrap_or(u16::MAX))
+}
+
+/// The number in 16 bits. One that does not fit is of a grammar over the limits.
+fn small(number: impl Into<usize>) -> Result<u16, Refusal> {
+    u16::try_from(number.into()).map_err(|_| Refusal::Sizes)
+}
+
+fn flat_symbol<StorageT: PrimInt + Unsigned>(symbol: Symbol<StorageT>) -> Result<u16, Refusal> {
+    let symbol = match symbol {
+        Symbol::Rule(ridx) => boltmarrow::Symbol::Rule(rule(ridx)),
+        Symbol::Token(tidx) => boltmarrow::Symbol::Token(token(tidx)),
+    };
+    symbol.to_flat().ok_or(Refusal::Sizes)
+}

@@ -1,0 +1,155 @@
+//! Flattened grammars against hand-written tables and against the crate's own answers. The grammars are given as the
+//! text that tools/oracle's stand-in for the crate's parser reads; so these tests are for that build of cfgrammar.
+use std::collections::HashMap;
+use std::fs;
+use std::path::{Path, PathBuf};
+
+use boltmarrow::{Grammar, Mode, Refusal};
+use boltmarrow_cfgrammar::{flatten, rule, token};
+use cfgrammar::yacc::{YaccGrammar, YaccKind, YaccOriginalActionKind};
+
+#[path = "../../../../tools/oracle/text.rs"]
+mod text;
+
+const KIND: YaccKind = YaccKind::Original(YaccOriginalActionKind::NoAction);
+
+/// Examples on which `rule_min_costs` panics or never returns (docs/DIFFERENCES.md).
+const NO_COSTS: [&str; 4] = ["g3", "g4", "g5-dear", "g5-either"];
+
+fn yacc(text: &str) -> YaccGrammar<u16> {
+    YaccGrammar::new_with_storaget(KIND, text).expect("a text of the stand-in's form")
+}
+
+#[test]
+fn rules_tokens_and_empty_productions() {
+    let names = "token a\ntoken b\nrule X\nrule Y\nstart X\n";
+    let prods = "prod X rule:Y token:b rule:X\nprod Y\nprod X token:a\nprod Y token:a token:b";
+    let costs = |tidx: cfgrammar::TIdx<u16>| 10 + tidx.as_storaget() as u8;
+    // By hand: rules 0 start, 1 X, 2 Y; tokens 0 a, 1 b, 2 eof; the start's production last.
+    let tables =
+        (3, vec![1, 2, 1, 2, 0], vec![0, 3, 3, 4, 6, 7], vec![32770, 1, 32769, 0, 0, 1, 32769], vec![10, 11, 12]);
+    assert_eq!(flatten(&yacc(&[names, prods].concat()), costs).map(Grammar::into_tables), Ok(tables));
+}
+
+/// The change that bindings/rust/README.md shows.
+#[test]
+fn the_tools_change_keeps_the_field_comma() -> Result<(), Refusal> {
+    let names = "token digits\ntoken ,\ntoken unit\nrule Row\nrule Num\nrule Unit\nstart Row\n";
+    let prods = "prod Row rule:Num rule:Unit token:,\nprod Num token:digits\nprod Unit token:unit\nprod Unit";
+    let grm = yacc(&[names, prods].concat());
+    let flat = flatten(&grm, |_| 1)?;
+    let follows = flat.follows(Mode::Corrected);
+    let (num, comma) = (grm.rule_idx("Num").unwrap(), grm.token_idx(",").unwrap());
+    assert!(!grm.follows().is_set(num, comma));
+    assert!(follows.is_set(rule(num), token(comma))?);
+    Ok(())
+}
+
+#[test]
+fn wider_numbers_flatten_to_the_same() {
+    let text = "token a\nrule X\nstart X\nprod X token:a rule:X\nprod X";
+    let wide = YaccGrammar::<u32>::new_with_storaget(KIND, text).expect("a text of the stand-in's form");
+    assert_eq!(flatten(&wide, |_| 1), flatten(&yacc(text), |_| 1));
+    assert_eq!(flatten(&wide, |_| 1).map(|flat| flat.into_tables().1), Ok(vec![1, 1, 0]));
+    assert_eq!(rule(cfgrammar::RIdx(70000u32)), boltmarrow::RIdx(65535));
+}
+
+/// So many rules, each of them nothing.
+fn nothings(rules: u32) -> YaccGrammar<u32> {
+    let lines = |word: &str| (1..rules).map(|r| format!("{word} r{r}\n")).collect::<String>();
+    let text = lines("rule") + &lines("prod") + "start r1";
+    YaccGrammar::new_with_storaget(KIND, &text).expect("a text of the stand-in's form")
+}
+
+#[test]
+fn too_large_a_grammar_is_refused() {
+    assert!(flatten(&nothings(512), |_| 1).is_ok());
+    for rules in [513, 32770, 65536, 65537] {
+        assert_eq!(flatten(&nothings(rules), |_| 1), Err(Refusal::Sizes), "{rules} rules");
+    }
+}
+
+#[test]
+fn too_many_symbols_are_refused() {
+    for len in [16383, 16384, 70000] {
+        let text = format!("token a\nrule X\nstart X\nprod X{}", " token:a".repeat(len));
+        let wide = YaccGrammar::<u32>::new_with_storaget(KIND, &text).expect("a text of the stand-in's form");
+        // one symbol more is the start's
+        assert_eq!(flatten(&wide, |_| 1).err(), (len > 16383).then_some(Refusal::Sizes), "{len} symbols");
+    }
+}
+
+/// The grammars of examples/ by name.
+fn examples() -> HashMap<String, Grammar> {
+    let folder = Path::new(env!("CARGO_MANIFEST_DIR")).join("../../../examples");
+    let paths = fs::read_dir(folder).expect("examples/ is there").map(|entry| entry.unwrap().path());
+    let files = paths.filter(|path| path.extension().is_some_and(|extension| extension == "blk"));
+    let named = |path: PathBuf| {
+        let grammar = Grammar::from_blocks(&fs::read(&path).unwrap()).unwrap();
+        (path.file_stem().unwrap().to_str().unwrap().to_string(), grammar)
+    };
+    files.map(named).collect()
+}
+
+/// The same grammar with the start's production last, as the crate has it, and the crate's own.
+fn as_the_crate(flat: Grammar) -> (Grammar, YaccGrammar<u16>) {
+    let (rules, owners, starts, symbols, costs) = flat.into_tables();
+    let body = |p: usize| &symbols[starts[p].into()..starts[p + 1].into()];
+    let (own, others): (Vec<usize>, Vec<usize>) = (0..owners.len()).partition(|&p| owners[p] == 0);
+    let order = [others, own].concat();
+    let text = text::text(rules, costs.len(), order.iter().map(|&p| (owners[p], body(p))));
+    let mut new_starts = vec![0];
+    new_starts.extend(order.iter().scan(0, |end, &p| {
+        *end += body(p).len() as u16;
+        Some(*end)
+    }));
+    let new_symbols = order.iter().flat_map(|&p| body(p)).copied().collect();
+    let new_owners = order.iter().map(|&p| owners[p]).collect();
+    (Grammar::new(rules, new_owners, new_starts, new_symbols, costs).unwrap(), yacc(&text))
+}
+
+fn marks_are_equal(name: &str, flat: &Grammar, grm: &YaccGrammar<u16>) {
+    let (firsts, follows) = (flat.firsts(), flat.follows(Mode::Crate));
+    let (own_firsts, own_follows) = (grm.firsts(), grm.follows());
+    for ridx in grm.iter_rules() {
+        assert_eq!(firsts.is_epsilon_set(rule(ridx)), Ok(own_firsts.is_epsilon_set(ridx)), "{name}");
+        for tidx in grm.iter_tidxs() {
+            let (r, t) = (rule(ridx), token(tidx));
+            assert_eq!(firsts.is_set(r, t), Ok(own_firsts.is_set(ridx, tidx)), "{name}: FIRST {r:?} {t:?}");
+            assert_eq!(follows.is_set(r, t), Ok(own_follows.is_set(ridx, tidx)), "{name}: FOLLOW {r:?} {t:?}");
+        }
+    }
+}
+
+fn paths_are_equal(name: &str, flat: &Grammar, grm: &YaccGrammar<u16>) {
+    for from in grm.iter_rules() {
+        for to in grm.iter_rules() {
+            assert_eq!(flat.has_path(rule(from), rule(to)), Ok(grm.has_path(from, to)), "{name}: {from:?} {to:?}");
+        }
+    }
+}
+
+fn costs_are_equal(name: &str, flat: &Grammar, grm: &YaccGrammar<u16>) {
+    let own = grm.sentence_generator(|tidx| flat.token_cost(token(tidx)).unwrap());
+    let sentences = flat.sentence_generator();
+    for ridx in grm.iter_rules() {
+        let cost = own.min_sentence_cost(ridx);
+        assert_eq!(sentences.min_sentence_cost(rule(ridx)), Ok(cost), "{name}: {ridx:?}");
+    }
+}
+
+#[test]
+fn examples_have_the_crates_own_answers() {
+    let examples = examples();
+    assert!(examples.len() >= 12 && NO_COSTS.iter().all(|name| examples.contains_key(*name)));
+    for (name, example) in examples {
+        let (renumbered, grm) = as_the_crate(example);
+        let flat = flatten(&grm, |tidx| renumbered.token_cost(token(tidx)).unwrap()).unwrap();
+        assert_eq!(flat, renumbered, "{name}");
+        marks_are_equal(&name, &flat, &grm);
+        paths_are_equal(&name, &flat, &grm);
+        if !NO_COSTS.contains(&&name[..]) {
+            costs_are_equal(&name, &flat, &grm);
+        }
+    }
+}

@@ -1,0 +1,44 @@
+//! FIRST, FOLLOW, `has_path`, minimum costs and cheapest sentences of a grammar, as cfgrammar has them, by a library
+//! whose every call is proved to give document 01's tables, to end, and to stay in its lists.
+//!
+//! A [`Grammar`] owns its flat tables and is checked once, when it is made. All else borrows it, with tables of the
+//! lengths that it needs. What can still be refused is a number that the grammar does not have, or a sentence that is
+//! not there: a [`Refusal`].
+//!
+//! ```
+//! use boltmarrow::{Grammar, Mode, RIdx, TIdx};
+//!
+//! // Row: Num Unit comma; Num: digits; Unit: unit | nothing. Rules are 0 start, 1 Row, 2 Num, 3 Unit,
+//! // tokens 0 digits, 1 comma, 2 unit, 3 eof; in the symbol list rule r is 32768 + r.
+//! let (num, comma) = (RIdx(2), TIdx(1));
+//! let grm = Grammar::new(
+//!     4,
+//!     vec![0, 1, 2, 3, 3],
+//!     vec![0, 1, 4, 5, 6, 6],
+//!     vec![32769, 32770, 32771, 1, 0, 2],
+//!     vec![1, 1, 1, 1],
+//! )?;
+//! assert!(grm.follows(Mode::Corrected).is_set(num, comma)?);
+//! assert!(!grm.follows(Mode::Crate).is_set(num, comma)?);
+//! # Ok::<(), boltmarrow::Refusal>(())
+//! ```
+#![deny(missing_docs, unsafe_code)]
+
+mod costs;
+mod firsts;
+mod follows;
+mod grammar;
+mod idx;
+mod refusal;
+mod sentences;
+mod sys;
+mod table;
+
+pub use costs::{CostTable, Costs, Productive, ProductiveTable};
+pub use firsts::{FirstTable, Firsts};
+pub use follows::{FollowTable, Follows, Mode};
+pub use grammar::Grammar;
+pub use idx::{PIdx, RIdx, Symbol, TIdx};
+pub use refusal::Refusal;
+pub use sentences::SentenceGenerator;
+pub use table::Filled;

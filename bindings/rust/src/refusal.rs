@@ -1,0 +1,119 @@
+use std::error::Error;
+use std::fmt;
+
+/// Why a call was refused. There is one for each refusal number of document 01.
+#[derive(Clone, Copy, Debug, Eq, Hash, PartialEq)]
+pub enum Refusal {
+    /// R, T, P or N is outside its limits.
+    Sizes = 1,
+    /// The starts are not P+1 numbers that rise from 0 to N.
+    Starts = 2,
+    /// An owner is no rule.
+    Owner = 3,
+    /// A rule owns no production.
+    NoProduction = 4,
+    /// A symbol is no token below eof and no rule.
+    Symbol = 5,
+    /// Rule 0 owns other than one production of one rule symbol, or stands in a production.
+    Start = 6,
+    /// A lent table is not of its exact length. This crate lends no such table.
+    TableLength = 7,
+    /// FOLLOW mode other than 1 or 2. [`Mode`](crate::Mode) has no other.
+    Mode = 8,
+    /// The rule number is R or more.
+    RuleNumber = 9,
+    /// The token number is T or more.
+    TokenNumber = 10,
+    /// The production number is P or more.
+    ProductionNumber = 11,
+    /// The rule has no sentence.
+    NoSentence = 12,
+    /// The rule has a sentence, but none costs 65535 or less.
+    Dear = 13,
+    /// The rule's first choices lead back to a rule that is being replaced.
+    Circular = 14,
+    /// The sentence is longer than 65535 tokens, or than the room for it.
+    Room = 15,
+    /// The file is empty, not whole blocks, or over 98 blocks.
+    FileLength = 20,
+    /// A block's check differs.
+    BlockCheck = 21,
+    /// A block's number is not its place.
+    BlockNumber = 22,
+    /// The file has other than the blocks due, or a spare byte that is not zero.
+    BlocksDue = 23,
+}
+
+use Refusal::*;
+
+impl Refusal {
+    /// All of them, by rising number.
+    pub const ALL: [Refusal; 19] = [
+        Sizes,
+        Starts,
+        Owner,
+        NoProduction,
+        Symbol,
+        Start,
+        TableLength,
+        Mode,
+        RuleNumber,
+        TokenNumber,
+        ProductionNumber,
+        NoSentence,
+        Dear,
+        Circular,
+        Room,
+        FileLength,
+        BlockCheck,
+        BlockNumber,
+        BlocksDue,
+    ];
+
+    /// Document 01's number.
+    pub fn number(self) -> u32 {
+        self as u32
+    }
+
+    /// Done for 0, which says that a call was not refused; else the refusal with that number.
+    pub(crate) fn unless(number: u32) -> Result<(), Refusal> {
+        if number == 0 {
+            return Ok(());
+        }
+        let refusal = Refusal::ALL.into_iter().find(|refusal| refusal.number() == number);
+        Err(refusal.expect("the library refuses by document 01's numbers"))
+    }
+
+    /// What is wrong, for a person.
+    fn sentence(self) -> &'static str {
+        match self {
+            Sizes => "a grammar has 2 to 512 rules, 1 to 512 tokens, 2 to 4096 productions and 1 to 16384 symbols",
+            Starts => "the starts must be one more than the productions and rise from 0 to the number of symbols",
+            Owner => "a production belongs to a rule that is not there",
+            NoProduction => "a rule has no production",
+            Symbol => "a production holds a symbol that is neither a token before eof nor a rule",
+            Start => "the start, rule 0, must have one production, of a single rule, and stand in no production",
+            TableLength => "a table is not as long as this grammar needs it",
+            Mode => "FOLLOW has the modes 1 (the crate's) and 2 (corrected) only",
+            RuleNumber => "the grammar has no rule with this number",
+            TokenNumber => "the grammar has no token with this number",
+            ProductionNumber => "the grammar has no production with this number",
+            NoSentence => "the rule has no sentence: it never comes to tokens alone",
+            Dear => "every sentence of the rule costs more than 65535",
+            Circular => "the rule's cheapest choice leads back to itself, so it gives no sentence",
+            Room => "the sentence is longer than 65535 tokens or than the room for it",
+            FileLength => "the file is empty, is not made of whole blocks of 512 bytes, or has more than 98",
+            BlockCheck => "a block of the file is damaged: its check does not fit its bytes",
+            BlockNumber => "a block of the file is out of place: its number is not its position",
+            BlocksDue => "the file has too few or too many blocks for its grammar, or something behind its end",
+        }
+    }
+}
+
+impl fmt::Display for Refusal {
+    fn fmt(&self, f: &mut fmt::Formatter) -> fmt::Result {
+        write!(f, "{} (refusal {})", self.sentence(), self.number())
+    }
+}
+
+impl Error for Refusal {}

@@ -1,0 +1,159 @@
+//! The exported calls of bindings/include/boltmarrow.h, as safe functions on slices. What the header asks of a caller
+//! holds for every slice: its pointer is neither null nor unaligned, also for length 0, it has as many elements as its
+//! length says, and one that is written overlaps no other.
+#![allow(unsafe_code)]
+
+use crate::Refusal;
+
+/// A grammar as the calls take it: any lists at all.
+#[derive(Clone, Copy)]
+pub(crate) struct Flat<'a> {
+    pub(crate) rules: u16,
+    pub(crate) owners: &'a [u16],
+    pub(crate) starts: &'a [u16],
+    pub(crate) symbols: &'a [u16],
+    pub(crate) costs: &'a [u8],
+}
+
+/// `boltmarrow_answer`
+#[repr(C)]
+pub(crate) struct Answer {
+    refusal: u32,
+    value: u32,
+}
+
+/// `boltmarrow_stretch`
+#[repr(C)]
+pub(crate) struct Stretch {
+    refusal: u32,
+    from: u32,
+    len: u32,
+}
+
+/// `boltmarrow_counts`
+#[repr(C)]
+pub(crate) struct Counts {
+    refusal: u32,
+    pub(crate) rules: u32,
+    pub(crate) tokens: u32,
+    pub(crate) prods: u32,
+    pub(crate) symbols: u32,
+}
+
+impl Answer {
+    /// The number that was answered.
+    pub(crate) fn number(self) -> Result<u32, Refusal> {
+        Refusal::unless(self.refusal).map(|()| self.value)
+    }
+
+    /// The yes or no, or changed or same, that was answered.
+    pub(crate) fn yes(self) -> Result<bool, Refusal> {
+        self.number().map(|value| value == 1)
+    }
+}
+
+impl Stretch {
+    /// Where in the symbol list the production stands.
+    pub(crate) fn range(self) -> Result<std::ops::Range<usize>, Refusal> {
+        Refusal::unless(self.refusal).map(|()| self.from as usize..(self.from + self.len) as usize)
+    }
+}
+
+impl Counts {
+    /// The counts, unless the file was refused.
+    pub(crate) fn told(self) -> Result<Counts, Refusal> {
+        Refusal::unless(self.refusal).map(|()| self)
+    }
+}
+
+/// Declares each call and its safe function. After the grammar the header's parameters come in four groups, each of
+/// which may be empty: numbers; lists that are written; lists that are read; numbers.
+macro_rules! exports {
+    ($($call:ident = $name:ident(
+        $($before:ident)*; $($out:ident: $o:ty),*; $($list:ident: $l:ty),*; $($after:ident)*
+    ) -> $answer:ty;)*) => {
+        extern "C" {
+            $(fn $call(
+                rules: u16, owners: *const u16, _: usize, starts: *const u16, _: usize,
+                symbols: *const u16, _: usize, costs: *const u8, _: usize,
+                $($before: u16,)* $($out: *mut $o, _: usize,)* $($list: *const $l, _: usize,)* $($after: u16,)*
+            ) -> $answer;)*
+        }
+        $(pub(crate) fn $name(
+            g: Flat, $($before: u16,)* $($out: &mut [$o],)* $($list: &[$l],)* $($after: u16,)*
+        ) -> $answer {
+            // Safe: see the head of this file.
+            unsafe {
+                $call(
+                    g.rules, g.owners.as_ptr(), g.owners.len(), g.starts.as_ptr(), g.starts.len(),
+                    g.symbols.as_ptr(), g.symbols.len(), g.costs.as_ptr(), g.costs.len(),
+                    $($before,)* $($out.as_mut_ptr(), $out.len(),)* $($list.as_ptr(), $list.len(),)* $($after,)*
+                )
+            }
+        })*
+    };
+}
+
+exports! {
+    boltmarrow_check = check(;;;) -> Answer;
+    boltmarrow_production = production(prod;;;) -> Stretch;
+    boltmarrow_mark = mark(;; table: u32; rule token) -> Answer;
+    boltmarrow_rule_mark = rule_mark(;; table: u32; rule) -> Answer;
+    boltmarrow_first_clear = first_clear(; first: u32, empty: u32;;) -> Answer;
+    boltmarrow_first_visit = first_visit(prod; first: u32, empty: u32;;) -> Answer;
+    boltmarrow_first_fill = first_fill(; first: u32, empty: u32;;) -> Answer;
+    boltmarrow_has_path = has_path(from to;;;) -> Answer;
+    boltmarrow_productive_clear = productive_clear(; productive: u32;;) -> Answer;
+    boltmarrow_productive_visit = productive_visit(prod; productive: u32;;) -> Answer;
+    boltmarrow_productive_fill = productive_fill(; productive: u32;;) -> Answer;
+    boltmarrow_cost_clear = cost_clear(; cost: u32;;) -> Answer;
+    boltmarrow_cost_visit = cost_visit(prod; cost: u32;;) -> Answer;
+    boltmarrow_cost_fill = cost_fill(; cost: u32;;) -> Answer;
+    boltmarrow_min_sentence_cost = min_sentence_cost(rule; productive: u32, cost: u32;;) -> Answer;
+    boltmarrow_follow_clear = follow_clear(; follow: u32;;) -> Answer;
+    boltmarrow_follow_visit = follow_visit(mode prod; follow: u32; first: u32, empty: u32;) -> Answer;
+    boltmarrow_follow_fill = follow_fill(mode; follow: u32, first: u32, empty: u32;;) -> Answer;
+    boltmarrow_min_sentence = min_sentence(rule; productive: u32, cost: u32, lengths: u32, out: u16;;) -> Answer;
+}
+
+extern "C" {
+    fn boltmarrow_read_blocks(
+        file: *const u8,
+        _: usize,
+        owners: *mut u16,
+        _: usize,
+        starts: *mut u16,
+        _: usize,
+        symbols: *mut u16,
+        _: usize,
+        costs: *mut u8,
+        _: usize,
+    ) -> Counts;
+}
+
+pub(crate) fn read_blocks(
+    file: &[u8],
+    owners: &mut [u16],
+    starts: &mut [u16],
+    symbols: &mut [u16],
+    costs: &mut [u8],
+) -> Counts {
+    // Safe: see the head of this file.
+    unsafe {
+        boltmarrow_read_blocks(
+            file.as_ptr(),
+            file.len(),
+            owners.as_mut_ptr(),
+            owners.len(),
+            starts.as_mut_ptr(),
+            starts.len(),
+            symbols.as_mut_ptr(),
+            symbols.len(),
+            costs.as_mut_ptr(),
+            costs.len(),
+        )
+    }
+}
+
+#[cfg(test)]
+mod tests;

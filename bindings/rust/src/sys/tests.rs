@@ -1,0 +1,88 @@
+//! What no safe call can do: tables of other lengths and other modes, for each call that takes one.
+use super::*;
+
+const G1: Flat = Flat {
+    rules: 4,
+    owners: &[1, 2, 2, 3, 3, 0],
+    starts: &[0, 3, 4, 4, 6, 6, 7],
+    symbols: &[32770, 0, 32771, 2, 1, 0, 32769],
+    costs: &[1, 1, 1, 1],
+};
+
+fn refused(answer: Answer) -> u32 {
+    answer.number().unwrap_err().number()
+}
+
+#[test]
+fn seven_for_mark_tables() {
+    for len in [0, 3, 5] {
+        let (mut wrong, mut right, mut row) = (vec![9; len], [9; 4], [9; 1]);
+        assert_eq!(refused(mark(G1, &wrong, 0, 0)), 7);
+        assert_eq!(refused(first_clear(G1, &mut wrong, &mut row)), 7);
+        assert_eq!(refused(first_visit(G1, 0, &mut wrong, &mut row)), 7);
+        assert_eq!(refused(first_fill(G1, &mut wrong, &mut row)), 7);
+        assert_eq!(refused(follow_clear(G1, &mut wrong)), 7);
+        assert_eq!(refused(follow_visit(G1, 1, 0, &mut right, &wrong, &row)), 7);
+        assert_eq!(refused(follow_visit(G1, 1, 0, &mut wrong, &right, &row)), 7);
+        assert_eq!(refused(follow_fill(G1, 1, &mut right, &mut wrong, &mut row)), 7);
+        assert_eq!((wrong, right, row), (vec![9; len], [9; 4], [9; 1]));
+    }
+}
+
+#[test]
+fn seven_for_rows_and_numbers() {
+    for len in [0, 2, 5] {
+        let (mut wrong, mut row, mut cost, mut out) = (vec![9; len], [9; 1], [9; 4], [9; 8]);
+        assert_eq!(refused(rule_mark(G1, &wrong, 0)), 7);
+        assert_eq!(refused(first_fill(G1, &mut cost, &mut wrong)), 7);
+        assert_eq!(refused(productive_clear(G1, &mut wrong)), 7);
+        assert_eq!(refused(productive_visit(G1, 0, &mut wrong)), 7);
+        assert_eq!(refused(productive_fill(G1, &mut wrong)), 7);
+        assert_eq!(refused(cost_clear(G1, &mut wrong)), 7);
+        assert_eq!(refused(cost_visit(G1, 0, &mut wrong)), 7);
+        assert_eq!(refused(cost_fill(G1, &mut wrong)), 7);
+        assert_eq!(refused(min_sentence_cost(G1, 0, &mut row, &mut wrong)), 7);
+        assert_eq!(refused(min_sentence(G1, 0, &mut row, &mut cost, &mut wrong, &mut out)), 7);
+        assert_eq!((wrong, row, cost, out), (vec![9; len], [9; 1], [9; 4], [9; 8]));
+    }
+}
+
+#[test]
+fn seven_for_the_readers_lists() {
+    let (mut owners, mut starts, mut symbols, mut costs) = ([0; 4096], [0; 4097], [0; 16384], [0; 511]);
+    let counts = read_blocks(&[0; 512], &mut owners, &mut starts, &mut symbols, &mut costs);
+    assert_eq!(counts.told().err(), Some(Refusal::TableLength));
+}
+
+#[test]
+fn eight_for_other_modes() {
+    for mode in [0, 3, 65535] {
+        let (mut follow, mut first, mut empty) = ([9; 4], [9; 4], [9; 1]);
+        assert_eq!(refused(follow_visit(G1, mode, 0, &mut follow, &first, &empty)), 8);
+        assert_eq!(refused(follow_fill(G1, mode, &mut follow, &mut first, &mut empty)), 8);
+        assert_eq!((follow, first, empty), ([9; 4], [9; 4], [9; 1]));
+    }
+}
+
+#[test]
+fn a_refused_grammar_ends_every_call_first() {
+    let wrong = Flat { rules: 1, ..G1 };
+    let (mut table, empty) = ([9; 3], [9; 2]);
+    assert_eq!(refused(check(wrong)), 1);
+    assert_eq!(production(wrong, 99).range(), Err(Refusal::Sizes));
+    assert_eq!(refused(mark(wrong, &table, 9, 9)), 1);
+    assert_eq!(refused(has_path(wrong, 9, 9)), 1);
+    assert_eq!(refused(follow_visit(wrong, 9, 99, &mut table, &[], &empty)), 1);
+    assert_eq!(refused(min_sentence(wrong, 9, &mut table, &mut [], &mut [], &mut [])), 1);
+    assert_eq!(table, [9; 3]);
+}
+
+#[test]
+fn words_are_where_document_01_has_them() {
+    let (mut first, mut empty) = ([u32::MAX; 4], [u32::MAX; 1]);
+    first_fill(G1, &mut first, &mut empty).number().unwrap();
+    assert_eq!((first, empty), ([0b101, 0b101, 0b100, 0b010], [0b1100]));
+    let mut cost = [9; 4];
+    cost_clear(G1, &mut cost).number().unwrap();
+    assert_eq!(cost, [65536; 4]);
+}

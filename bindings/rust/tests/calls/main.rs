@@ -1,0 +1,9 @@
+//! The crate's calls against values that were written by hand from document 01, and against the stored reports of
+//! examples/.
+mod files;
+mod grammars;
+mod refusals;
+mod reports;
+mod sentences;
+mod tables;
+mod visits;

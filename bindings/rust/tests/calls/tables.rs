@@ -1,0 +1,117 @@
+//! FIRST, EMPTY, FOLLOW, paths, PRODUCTIVE and COST.
+use boltmarrow::{Grammar, Mode, PIdx, RIdx, Symbol, TIdx};
+
+use crate::grammars::{comma, g1, g2, g3, g4, g5, g5_either, g6};
+
+fn numbers(tokens: impl Iterator<Item = TIdx>) -> Vec<u16> {
+    tokens.map(|tidx| tidx.as_storaget()).collect()
+}
+
+fn firsts(grm: &Grammar) -> Vec<Vec<u16>> {
+    let firsts = grm.firsts();
+    grm.iter_rules().map(|ridx| numbers(firsts.firsts(ridx).unwrap())).collect()
+}
+
+fn empties(grm: &Grammar) -> Vec<bool> {
+    let firsts = grm.firsts();
+    grm.iter_rules().map(|ridx| firsts.is_epsilon_set(ridx).unwrap()).collect()
+}
+
+fn follows(grm: &Grammar, mode: Mode) -> Vec<Vec<u16>> {
+    let follows = grm.follows(mode);
+    grm.iter_rules().map(|ridx| numbers(follows.follows(ridx).unwrap())).collect()
+}
+
+fn costs(grm: &Grammar) -> Vec<Option<u16>> {
+    let costs = grm.costs();
+    grm.iter_rules().map(|ridx| costs.cost(ridx).unwrap()).collect()
+}
+
+#[test]
+fn g1_is_as_its_report_says() {
+    let grm = g1();
+    assert_eq!(firsts(&grm), [vec![0, 2], vec![0, 2], vec![2], vec![1]]);
+    assert_eq!(empties(&grm), [false, false, true, true]);
+    for mode in [Mode::Crate, Mode::Corrected] {
+        assert_eq!(follows(&grm, mode), [vec![3], vec![3], vec![0], vec![3]]);
+    }
+    assert_eq!(costs(&grm), [Some(1), Some(1), Some(0), Some(0)]);
+}
+
+#[test]
+fn the_modes_differ_on_g2() {
+    let grm = g2();
+    assert_eq!(follows(&grm, Mode::Crate), [vec![3], vec![3], vec![1], vec![2]]);
+    assert_eq!(follows(&grm, Mode::Corrected), [vec![3], vec![3], vec![1, 2], vec![2]]);
+}
+
+#[test]
+fn the_corrected_mode_keeps_the_field_comma() {
+    let (grm, num, field_comma) = (comma(), RIdx(2), TIdx(2));
+    assert!(!grm.follows(Mode::Crate).is_set(num, field_comma).unwrap());
+    assert!(grm.follows(Mode::Corrected).is_set(num, field_comma).unwrap());
+    assert_eq!(follows(&grm, Mode::Crate)[2], [3]);
+    assert_eq!(follows(&grm, Mode::Corrected)[2], [2, 3, 4]);
+}
+
+#[test]
+fn a_filled_follow_has_filled_firsts() {
+    let grm = g1();
+    let follows = grm.follows(Mode::Corrected);
+    assert_eq!(numbers(follows.firsts().firsts(RIdx(1)).unwrap()), [0, 2]);
+    assert!(follows.firsts().is_epsilon_set(RIdx(3)).unwrap());
+}
+
+#[test]
+fn a_question_and_a_set_agree() {
+    let grm = comma();
+    let (firsts, follows) = (grm.firsts(), grm.follows(Mode::Corrected));
+    for ridx in grm.iter_rules() {
+        let asked = |is_set: &dyn Fn(TIdx) -> bool| numbers(grm.iter_tidxs().filter(|tidx| is_set(*tidx)));
+        assert_eq!(asked(&|tidx| firsts.is_set(ridx, tidx).unwrap()), numbers(firsts.firsts(ridx).unwrap()));
+        assert_eq!(asked(&|tidx| follows.is_set(ridx, tidx).unwrap()), numbers(follows.follows(ridx).unwrap()));
+    }
+}
+
+#[test]
+fn a_path_takes_a_step() {
+    let (grm, start, a) = (g3(), RIdx(0), RIdx(1));
+    assert!(grm.has_path(a, a).unwrap());
+    assert!(grm.has_path(start, a).unwrap());
+    assert!(!grm.has_path(start, start).unwrap());
+    assert!(!grm.has_path(a, start).unwrap());
+    assert!(!g1().has_path(RIdx(1), RIdx(1)).unwrap());
+    assert!(g1().has_path(RIdx(0), RIdx(3)).unwrap());
+}
+
+#[test]
+fn costs_are_the_least() {
+    assert_eq!(costs(&g3()), [Some(1), Some(1)]);
+    assert_eq!(costs(&g4()), [None, None]);
+    assert_eq!(costs(&g5(257)), [Some(65535), Some(65535)]);
+    assert_eq!(costs(&g5(258)), [None, None]);
+    assert_eq!(costs(&g5_either()), [Some(1), Some(1)]);
+    assert_eq!(costs(&g6()), [Some(1), Some(1)]);
+}
+
+#[test]
+fn a_rule_without_a_sentence_is_not_productive() {
+    let (without, dear) = (g4(), g5(258));
+    assert!(!without.productive().is_set(RIdx(1)).unwrap());
+    assert!(dear.productive().is_set(RIdx(1)).unwrap());
+    assert!(firsts(&without)[1].is_empty());
+}
+
+#[test]
+fn a_grammar_tells_its_parts() {
+    let grm = g1();
+    assert_eq!((grm.rules_len(), grm.tokens_len(), grm.prods_len()), (RIdx(4), TIdx(4), PIdx(6)));
+    assert_eq!((grm.start_rule_idx(), grm.eof_token_idx()), (RIdx(0), TIdx(3)));
+    let body: Vec<Symbol> = grm.prod(PIdx(0)).unwrap().collect();
+    assert_eq!(body, [Symbol::Rule(RIdx(2)), Symbol::Token(TIdx(0)), Symbol::Rule(RIdx(3))]);
+    assert_eq!(grm.prod(PIdx(2)).unwrap().len(), 0);
+    assert_eq!(grm.prod_to_rule(PIdx(5)), Ok(RIdx(0)));
+    assert_eq!(g5(1).token_cost(TIdx(0)), Ok(255));
+    let given = crate::grammars::g1_tables();
+    assert_eq!(grm.into_tables(), given);
+}

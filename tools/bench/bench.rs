@@ -1,0 +1,175 @@
+//! Times the Rust crate and the library on the same grammars, and the library's visits and queries beside its check.
+//!
+//!     bench                     at the repository's top; prints two tables
+//!     bench costs PLACE         ends once the Rust has the costs of the grammar at that place of the list
+//!
+//! Before a grammar is timed the two are held to each other: FIRST, EMPTY, FOLLOW in the crate's mode, and the costs
+//! where the Rust returns.
+mod clock;
+mod grammars;
+#[path = "../oracle/text.rs"]
+mod text;
+
+use std::hint::black_box;
+use std::process::Command;
+use std::thread::sleep;
+use std::time::{Duration, Instant};
+
+use boltmarrow::{Grammar, Mode, PIdx, RIdx, TIdx};
+use boltmarrow_cfgrammar::{flatten, rule, token};
+use cfgrammar::yacc::{YaccGrammar, YaccKind, YaccOriginalActionKind};
+
+use clock::{Times, both};
+use grammars::Given;
+
+/// How long the Rust may take for its costs before it is taken not to return.
+const PATIENCE: Duration = Duration::from_secs(5);
+
+/// The crate's grammar and ours.
+fn built(given: &Given) -> (YaccGrammar<u16>, Grammar) {
+    let prods = given.prods.iter().map(|(owner, body)| (*owner, &body[..]));
+    let text = text::text(given.rules, given.costs.len(), prods);
+    let kind = YaccKind::Original(YaccOriginalActionKind::NoAction);
+    let grm = YaccGrammar::new_with_storaget(kind, &text).expect("a text of the stand-in's form");
+    let flat = flatten(&grm, |tidx| given.costs[usize::from(tidx)]).expect("a grammar within the limits");
+    (grm, flat)
+}
+
+/// The crate's costs: those of all rules are worked out when the first is asked for.
+fn rust_costs(grm: &YaccGrammar<u16>, costs: &[u8]) -> Vec<u16> {
+    let sentences = grm.sentence_generator(|tidx| costs[usize::from(tidx)]);
+    grm.iter_rules().map(|ridx| sentences.min_sentence_cost(ridx)).collect()
+}
+
+/// Takes a call's answer, so that no call is left out.
+fn keep<T>(answer: T) {
+    drop(black_box(answer));
+}
+
+fn hold_marks(grm: &YaccGrammar<u16>, flat: &Grammar) {
+    let (firsts, follows) = (flat.firsts(), flat.follows(Mode::Crate));
+    let (own_firsts, own_follows) = (grm.firsts(), grm.follows());
+    for ridx in grm.iter_rules() {
+        let held = |holds: &dyn Fn(cfgrammar::TIdx<u16>) -> bool| -> Vec<TIdx> {
+            grm.iter_tidxs().filter(|tidx| holds(*tidx)).map(token).collect()
+        };
+        let (r, first, follow) = (rule(ridx), &own_firsts, &own_follows);
+        assert_eq!(firsts.firsts(r).unwrap().collect::<Vec<_>>(), held(&|tidx| first.is_set(ridx, tidx)));
+        assert_eq!(firsts.is_epsilon_set(r), Ok(first.is_epsilon_set(ridx)));
+        assert_eq!(follows.follows(r).unwrap().collect::<Vec<_>>(), held(&|tidx| follow.is_set(ridx, tidx)));
+    }
+}
+
+fn hold_costs(grm: &YaccGrammar<u16>, flat: &Grammar, costs: &[u8]) {
+    let ours = flat.costs();
+    let ours: Vec<Option<u16>> = flat.iter_rules().map(|ridx| ours.cost(ridx).unwrap()).collect();
+    assert_eq!(ours, rust_costs(grm, costs).into_iter().map(Some).collect::<Vec<_>>());
+}
+
+/// Whether the Rust returns the costs of the grammar at that place, found out by a process of its own.
+fn costs_return(place: usize) -> bool {
+    let this = std::env::current_exe().expect("the program has a name");
+    let mut child = Command::new(this).args(["costs", &place.to_string()]).spawn().expect("the program can be started");
+    let start = Instant::now();
+    while start.elapsed() < PATIENCE {
+        if let Some(status) = child.try_wait().expect("the process can be asked") {
+            return status.success();
+        }
+        sleep(Duration::from_millis(10));
+    }
+    child.kill().expect("the process can be ended");
+    child.wait().expect("the process can be ended");
+    false
+}
+
+fn microseconds(seconds: f64) -> String {
+    format!("{:.1}", seconds * 1e6)
+}
+
+fn line(name: &str, what: &str, rust: &mut dyn FnMut(), ours: &mut dyn FnMut()) {
+    let (rust, ours) = both(rust, ours);
+    let shown = [rust.least, rust.median, ours.least, ours.median].map(microseconds).join(" | ");
+    println!("| {name} | {what} | {shown} | {:.2} | {:.2} |", rust.least / ours.least, rust.median / ours.median);
+}
+
+fn fills(place: usize, given: &Given) {
+    let (grm, flat) = built(given);
+    hold_marks(&grm, &flat);
+    line(given.name, "FIRST", &mut || keep(grm.firsts()), &mut || keep(flat.firsts()));
+    line(given.name, "FOLLOW", &mut || keep(grm.follows()), &mut || keep(flat.follows(Mode::Crate)));
+    if !costs_return(place) {
+        println!("| {} | costs | the Rust does not return | | | | | |", given.name);
+        return;
+    }
+    hold_costs(&grm, &flat, &given.costs);
+    let rust = &mut || keep(rust_costs(&grm, &given.costs));
+    line(given.name, "costs", rust, &mut || keep(flat.costs()));
+}
+
+/// One call of each kind on the grammar, in turn with the check alone. A visit takes the productions in turn, on a
+/// table that is full.
+fn beside_check(flat: &Grammar) {
+    let turn = |count: u16| (0..count).cycle();
+    let (mut prods, mut rules) = (turn(flat.prods_len().0).map(PIdx), turn(flat.rules_len().0).map(RIdx));
+    let (mut first, mut productive, mut cost) = (flat.first_table(), flat.productive_table(), flat.cost_table());
+    let [mut one, mut two] = [Mode::Crate, Mode::Corrected].map(|mode| flat.follow_table(mode));
+    for pidx in (0..3).flat_map(|_| flat.iter_pidxs()) {
+        for table in [&mut one, &mut two] {
+            table.visit(pidx).unwrap();
+        }
+        let visited = [first.visit(pidx), productive.visit(pidx), cost.visit(pidx)];
+        assert!(visited.iter().all(|visited| visited.is_ok()));
+    }
+    let mut prod = || prods.next().unwrap();
+    let firsts = flat.firsts();
+    let eof = flat.eof_token_idx();
+    check_line(flat, "production", &mut || keep(flat.prod(prod())));
+    check_line(flat, "is_set", &mut || keep(firsts.is_set(rules.next().unwrap(), eof)));
+    check_line(flat, "FIRST visit", &mut || keep(first.visit(prod())));
+    check_line(flat, "FOLLOW visit, the crate's mode", &mut || keep(one.visit(prod())));
+    check_line(flat, "FOLLOW visit, corrected", &mut || keep(two.visit(prod())));
+    check_line(flat, "PRODUCTIVE visit", &mut || keep(productive.visit(prod())));
+    check_line(flat, "COST visit", &mut || keep(cost.visit(prod())));
+    check_line(flat, "has_path, none", &mut || keep(flat.has_path(RIdx(1), RIdx(0))));
+    let sentences = flat.sentence_generator();
+    check_line(flat, "min_sentence_cost", &mut || keep(sentences.min_sentence_cost(RIdx(1))));
+    check_line(flat, "min_sentence", &mut || keep(sentences.min_sentence(RIdx(1))));
+}
+
+fn check_line(flat: &Grammar, what: &str, call: &mut dyn FnMut()) {
+    let mut tables = Some(flat.clone().into_tables());
+    let check = &mut || {
+        let (rules, owners, starts, symbols, costs) = tables.take().unwrap();
+        let grammar = Grammar::new(rules, owners, starts, symbols, costs).unwrap();
+        tables = Some(grammar.into_tables());
+    };
+    let (call, check) = both(call, check);
+    let shown = |times: Times| [times.least, times.median].map(microseconds).join(" | ");
+    let ratio = call.median / check.median;
+    println!("| {what} | {} | {} | {ratio:.2} |", shown(call), shown(check));
+}
+
+fn tables(given: &[Given]) {
+    println!("| grammar | fill | Rust, least | median | ours, least | median | Rust / ours, least | median |");
+    println!("|---|---|---|---|---|---|---|---|");
+    for (place, given) in given.iter().enumerate() {
+        fills(place, given);
+    }
+    let random = given.iter().find(|given| given.name == "random").expect("it is among them");
+    println!("\n| call, on 'random' | least | median | its check, least | median | call / check |");
+    println!("|---|---|---|---|---|---|");
+    beside_check(&built(random).1);
+}
+
+fn main() {
+    let given = grammars::all();
+    let words: Vec<String> = std::env::args().skip(1).collect();
+    match &words.iter().map(String::as_str).collect::<Vec<_>>()[..] {
+        [] => tables(&given),
+        ["costs", place] => {
+            let given = &given[place.parse::<usize>().expect("a number")];
+            keep(rust_costs(&built(given).0, &given.costs));
+        }
+        _ => panic!("use: bench, or bench costs PLACE"),
+    }
+}

@@ -1,0 +1,145 @@
+//! The grammars that are timed, as productions in the crate's order: the start's last.
+use std::fs;
+
+use boltmarrow::{Grammar, Symbol};
+
+pub const RULE: u16 = 32768;
+
+/// Document 01's limits.
+const RULES: u16 = 512;
+const TOKENS: u16 = 512;
+const PRODS: usize = 4096;
+const SYMBOLS: usize = 16384;
+
+pub struct Given {
+    pub name: &'static str,
+    pub rules: u16,
+    pub costs: Vec<u8>,
+    pub prods: Vec<(u16, Vec<u16>)>,
+}
+
+pub fn all() -> Vec<Given> {
+    let (climate, load) = (example("climate"), example("load"));
+    let large = together(&[&climate, &load, &climate, &load, &climate, &load, &climate, &load]);
+    vec![
+        example("g1"),
+        climate,
+        large,
+        random("random", Shape { seed: 1, tokens: 50, empty: 0, closed: false }),
+        random("random, a token ends each", Shape { seed: 2, tokens: 50, empty: 0, closed: true }),
+        random("random, mostly rules, a quarter empty", Shape { seed: 3, tokens: 10, empty: 25, closed: false }),
+        rising_chain(),
+        falling_chain(),
+        empty(),
+    ]
+}
+
+/// A grammar of examples/.
+fn example(name: &'static str) -> Given {
+    let file = fs::read(format!("examples/{name}.blk")).expect("started at the repository's top");
+    let grammar = Grammar::from_blocks(&file).expect("examples are well-formed");
+    let body = |pidx| grammar.prod(pidx).unwrap().map(|symbol: Symbol| symbol.to_flat().unwrap()).collect();
+    let mut prods: Vec<(u16, Vec<u16>)> =
+        grammar.iter_pidxs().map(|pidx| (grammar.prod_to_rule(pidx).unwrap().0, body(pidx))).collect();
+    prods.sort_by_key(|(owner, _)| *owner == 0);
+    let costs = grammar.iter_tidxs().map(|tidx| grammar.token_cost(tidx).unwrap()).collect();
+    Given { name, rules: grammar.rules_len().0, costs, prods }
+}
+
+/// All of them under one rule, each with rules and tokens of its own.
+fn together(parts: &[&Given]) -> Given {
+    let (mut rules, mut tokens) = (2, 0);
+    let (mut prods, mut costs) = (vec![], vec![]);
+    for part in parts {
+        let moved = |&symbol: &u16| if symbol < RULE { symbol + tokens } else { symbol - 1 + rules };
+        for (owner, body) in &part.prods {
+            let owner = if *owner == 0 { 1 } else { owner - 1 + rules };
+            prods.push((owner, body.iter().map(moved).collect()));
+        }
+        let own = part.costs.len() - 1;
+        costs.extend(&part.costs[..own]);
+        (rules, tokens) = (rules + part.rules - 1, tokens + own as u16);
+    }
+    costs.push(1);
+    finished("climate and load, four of each", rules, costs, prods)
+}
+
+/// With the start's production, which is rule 1, at the end.
+fn finished(name: &'static str, rules: u16, costs: Vec<u8>, mut prods: Vec<(u16, Vec<u16>)>) -> Given {
+    prods.push((0, vec![RULE + 1]));
+    Given { name, rules, costs, prods }
+}
+
+/// Numbers that look random and are the same in each run (xorshift).
+struct Draw(u64);
+
+impl Draw {
+    fn below(&mut self, end: u64) -> u64 {
+        self.0 ^= self.0 << 13;
+        self.0 ^= self.0 >> 7;
+        self.0 ^= self.0 << 17;
+        (self.0 >> 16) % end
+    }
+
+    fn token(&mut self) -> u16 {
+        self.below(u64::from(TOKENS) - 1) as u16
+    }
+
+    fn symbol(&mut self, tokens: u64) -> u16 {
+        if self.below(100) < tokens { self.token() } else { RULE + 1 + self.below(u64::from(RULES) - 1) as u16 }
+    }
+}
+
+/// Of a hundred symbols so many are tokens, and of a hundred rules so many have an empty production. In a closed grammar
+/// a token ends each production that is not empty, so that the Rust's costs come to an end.
+struct Shape {
+    seed: u64,
+    tokens: u64,
+    empty: u64,
+    closed: bool,
+}
+
+/// A grammar at the limits. Each rule has a production of one token. Tokens cost 1 to 255.
+fn random(name: &'static str, shape: Shape) -> Given {
+    let mut draw = Draw(shape.seed * 0x9e37_79b9_7f4a_7c15);
+    let others = u64::from(RULES) - 1;
+    let mut prods: Vec<(u16, Vec<u16>)> = (1..RULES).map(|r| (r, vec![draw.token()])).collect();
+    let empty: Vec<u16> = (1..RULES).filter(|_| draw.below(100) < shape.empty).collect();
+    prods.extend(empty.into_iter().map(|r| (r, vec![])));
+    let mut left = SYMBOLS - usize::from(RULES);
+    while prods.len() < PRODS - 1 {
+        let len = left / (PRODS - 1 - prods.len());
+        let mut body: Vec<u16> = (1..len).map(|_| draw.symbol(shape.tokens)).collect();
+        body.push(draw.symbol(if shape.closed { 100 } else { shape.tokens }));
+        prods.push((1 + draw.below(others) as u16, body));
+        left -= len;
+    }
+    finished(name, RULES, (0..TOKENS).map(|t| (t % 255) as u8 + 1).collect(), prods)
+}
+
+/// Productions of one token each, all tokens.
+fn tokens_of(rule: u16) -> impl Iterator<Item = (u16, Vec<u16>)> {
+    (0..TOKENS - 1).map(move |token| (rule, vec![token]))
+}
+
+/// Rule r is rule r+1; the last is any token.
+fn rising_chain() -> Given {
+    let mut prods: Vec<(u16, Vec<u16>)> = (1..RULES - 1).map(|r| (r, vec![RULE + r + 1])).collect();
+    prods.extend(tokens_of(RULES - 1));
+    finished("chain, each rule is the next", RULES, vec![1; TOKENS.into()], prods)
+}
+
+/// Rule r is rule r-1; rule 1 is any token. The start is the last rule.
+fn falling_chain() -> Given {
+    let mut prods: Vec<(u16, Vec<u16>)> = tokens_of(1).collect();
+    prods.extend((2..RULES).map(|r| (r, vec![RULE + r - 1])));
+    prods.push((0, vec![RULE + RULES - 1]));
+    Given { name: "chain, each rule is the one before", rules: RULES, costs: vec![1; TOKENS.into()], prods }
+}
+
+/// Each rule is nothing, a token of its own, or the next 31 rules, as far as there are so many.
+fn empty() -> Given {
+    let next = |r: u16| (r + 1..RULES.min(r + 32)).map(|r| RULE + r).collect();
+    let prods = (1..RULES).flat_map(|r| [(r, vec![]), (r, vec![r - 1]), (r, next(r))]).collect();
+    finished("all rules empty", RULES, vec![1; TOKENS.into()], prods)
+}

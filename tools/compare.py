@@ -15,12 +15,8 @@ and the program exits with 1.
 """
 import collections
 import concurrent.futures
-import functools
-import importlib.machinery
-import importlib.util
 import itertools
 import json
-import pathlib
 import random
 import subprocess
 import sys
@@ -29,71 +25,15 @@ import time
 sys.dont_write_bytecode = True
 import grammars
 import plain
-from plain import MOST, RULE
-
-TOP = pathlib.Path(__file__).resolve().parent.parent
-LOADER = importlib.machinery.SourceFileLoader("blocks", str(TOP / "bin" / "blocks"))
-blocks = importlib.util.module_from_spec(importlib.util.spec_from_loader("blocks", LOADER))
-LOADER.exec_module(blocks)
+from block_text import TOP
+from named import SAID, named, refused, returned
+from reading import Reading
 
 ORACLE = [str(TOP / "target" / "oracle" / "oracle")]
 WORKERS = 2
 LARGE_EVERY = 1000  # so many random grammars from a large one to the next, which takes seconds
 STOPPED = ("out of time", "out of memory")
 STEPS = 100_000  # so many steps of min_sentence fit well into the oracle's time
-
-# Inputs of docs/DIFFERENCES.md that are no examples, in the form of bin/blocks; and document 01's sixty rules.
-CASES = {
-    "order": "tokens a b eof|rules start X Y|start: X|X: Y a|Y: b",
-    "free loop": "tokens f=0 a eof|rules start A|start: A|A: A f|A: a",
-    "bound loop": "tokens a eof|rules start A|start: A|A: A A|A: a",
-    "no way out": "tokens eof|rules start A|start: A|A: A",
-    "one without": "tokens a eof|rules start A B|start: A|A: a|B: B",
-    "own sum": "tokens a b=255 eof|rules start A B|start: A|A:|A: B B a|B: b*129",
-    "again": "tokens eof|rules start A B|start: A|A: B*40|B:",
-    "sixty": "tokens eof|rules start " + " ".join(f"r{k}" for k in range(1, 61)) + "|start: r1"
-    + "".join(f"|r{k}: r{k + 1}*2" for k in range(1, 60)) + "|r60:",
-    "513 rules": "tokens a eof|rules start " + " ".join(f"r{k}" for k in range(1, 513)) + "|start: r1"
-    + "".join(f"|r{k}: a" for k in range(1, 513)),
-}
-OVERFLOW = {"panicked": "Overflow occurred when calculating rule costs"}
-LATE = "out of time"
-
-
-def returned(*numbers):
-    return {"returned": [*numbers]}
-
-
-def refused(number):
-    return {"refused": number}
-
-
-# What is said of one grammar: a part of the Rust's answer, and that of ours.
-SAID = [
-    ("g1", "sentences 0", returned(0, 0), "sentences 0", returned(0)),
-    ("g2", "follow 2", [1], "corrected 2", [1, 2]),
-    ("g2", "follow 2", [1], "follow 2", [1]),
-    ("g3", "costs", LATE, "costs 1", returned(1)),
-    ("g3", "sentences 1", LATE, "sentences 1", refused(14)),
-    ("g4", "costs", OVERFLOW, "costs 1", refused(12)),
-    ("g5", "costs", returned(65535, 65535), "costs 1", returned(65535)),
-    ("g5-dear", "costs", OVERFLOW, "costs 1", refused(13)),
-    ("g5-either", "costs", OVERFLOW, "costs 1", returned(1)),
-    ("g6", "costs", returned(1, 1), "costs 1", returned(1)),
-    ("g6", "sentences 1", returned(1), "sentences 1", returned(1)),
-    ("order", "sentences 1", returned(0, 1, 0), "sentences 1", returned(1, 0)),
-    ("free loop", "costs", LATE, "costs 1", returned(1)),
-    ("bound loop", "costs", LATE, "costs 1", returned(1)),
-    ("bound loop", "sentences 1", LATE, "sentences 1", returned(0)),
-    ("no way out", "costs", LATE, "costs 1", refused(12)),
-    ("one without", "costs", LATE, "costs", [returned(1), returned(1), refused(12)]),
-    ("own sum", "costs", returned(0, 0, 32895), "costs 2", returned(32895)),
-    ("own sum", "sentences 1", {"panicked": "attempt to add with overflow"}, "sentences 1", returned()),
-    ("again", "costs", returned(0, 0, 0), "costs 1", returned(0)),
-    ("again", "sentences 1", LATE, "sentences 1", returned()),
-    ("sixty", "sentences 1", LATE, "sentences 1", returned()),
-    ("513 rules", "sentences 512", returned(0), "refused", 1),
-]
 
 
 def part(answer, path):
@@ -145,126 +85,8 @@ def plain_answer(g):
     }
 
 
-def circle(links):
-    return any(r in plain.reached(r, links) for r in links)
-
-
 def kind_of(outcome):
     return outcome if isinstance(outcome, str) else next(iter(outcome))
-
-
-class Reading:
-    """What document 01 says of costs and sentences of one grammar, and what the Rust's loops make of them."""
-
-    def __init__(self, g):
-        self.g = g
-        self.bodies = collections.defaultdict(list)  # of each rule
-        for r, body in g.productions():
-            self.bodies[r].append(body)
-        self.known = plain.least_costs(g)
-        fit = {r: cost for r, cost in self.known.items() if cost <= MOST}
-        self.choice = plain.cheapest_first(g, fit)
-        self.lengths = plain.sentence_lengths(self.choice)
-        self.taken, self.written = {}, {}
-
-    def cost(self, r):
-        if r not in self.known:
-            return refused(12)
-        return returned(self.known[r]) if self.known[r] <= MOST else refused(13)
-
-    def sentence(self, r):
-        if r not in self.choice:
-            return self.cost(r)
-        if r not in self.lengths:
-            return refused(14)
-        if self.lengths[r] > MOST:
-            return refused(15)
-        return returned(*plain.expanded(r, self.choice, self.lengths))
-
-    def costless(self, s, rules):
-        return s - RULE in rules if s >= RULE else self.g.costs[s] == 0
-
-    def loop(self, rules):
-        """Whether a rule leads back to itself over productions whose other symbols are free tokens or these rules."""
-        links = {}
-        for r, body in self.g.productions():
-            for k, s in enumerate(body):
-                if s >= RULE and all(self.costless(x, rules) for x in body[:k] + body[k + 1 :]):
-                    links.setdefault(r, set()).add(s - RULE)
-        return circle(links)
-
-    def stuck(self):
-        """The rules whose lower bound stays 0: the largest set in which each has a production of free tokens and of
-        such rules."""
-        held = set(range(self.g.rules))
-        while True:
-            left = {r for r, body in self.g.productions() if all(self.costless(s, held) for s in body)} & held
-            if left == held:
-                return held
-            held = left
-
-    @functools.cached_property
-    def endless(self):
-        """Why rule_min_costs never returns; None if it must return or panic."""
-        if len(self.known) < self.g.rules:
-            return "a rule without a sentence"
-        if self.loop({r for r, cost in self.known.items() if cost == 0}):
-            return "a loop that adds no cost"
-        if self.loop(self.stuck()):
-            return "a loop that adds only rules whose lower bound stays 0"
-        return None
-
-    def dear(self, rules):
-        """Whether a production of these rules costs more than 65535."""
-        prices = [plain.price(self.g, body, self.known) for r in rules for body in self.bodies[r]]
-        return any(price is not None and price > MOST for price in prices)
-
-    @functools.cached_property
-    def overflows(self):
-        """Why rule_min_costs panics; None if it must not."""
-        if len(self.known) < self.g.rules:
-            return "a rule without a sentence"
-        return "a sum above 65535" if self.dear(range(self.g.rules)) else None
-
-    def asks(self, r):
-        """Whether the sentence of a rule asks for costs."""
-        return any(plain.rules_of(body) for body in self.bodies[r])
-
-    def used(self, r):
-        """The rules whose first choice is taken."""
-        return {r} | plain.reached(r, {rule: plain.rules_of(body) for rule, body in self.choice.items()})
-
-    def place(self, r):
-        """Whether a production used has a rule followed by a token or by a rule whose sentence is not empty."""
-        for rule in self.used(r):
-            body = self.choice[rule]
-            before = next((k for k, s in enumerate(body) if s >= RULE), len(body))
-            if any(s < RULE or self.lengths[s - RULE] > 0 for s in body[before + 1 :]):
-                return True
-        return False
-
-    def steps(self, r, at=0):
-        """The symbols that min_sentence looks at: the rest of a production again after each rule in it, and for each
-        rule all of its productions."""
-        if (r, at) not in self.taken:
-            body = self.choice[r]
-            total = len(body) - at + 1 + (0 if at else sum(len(other) for other in self.bodies[r]))
-            for k in range(at, len(body)):
-                if body[k] >= RULE:
-                    total += self.steps(body[k] - RULE) + self.steps(r, k + 1)
-            self.taken[r, at] = total
-        return self.taken[r, at]
-
-    def again(self, r, at=0):
-        """What min_sentence writes, by taking the rest of a production again after each rule in it."""
-        if (r, at) not in self.written:
-            body = self.choice[r]
-            tokens = [s for s in body[at:] if s < RULE]
-            for k in reversed(range(at, len(body))):
-                if body[k] >= RULE:
-                    tokens += self.again(body[k] - RULE) + self.again(r, k + 1)
-            self.written[r, at] = tokens
-        return self.written[r, at]
 
 
 class Comparison:
@@ -401,17 +223,6 @@ class Comparer(Comparison):
             self.unexplained("sentence: not what taking the rest again gives", f"rule {r}: {rust}")
         else:
             self.count("sentence: differs at a place that document 01 names, as taking the rest again gives")
-
-
-def named():
-    """The examples that are grammars, and the cases."""
-    texts = {path.stem: path.read_text() for path in sorted((TOP / "examples").glob("*.txt"))}
-    texts |= {name: text.replace("|", "\n") for name, text in CASES.items()}
-    for name, text in texts.items():
-        made = blocks.Text(text)
-        g = plain.Grammar(made.rules, made.owners, made.starts, made.symbols, made.costs)
-        if not made.raw and not made.early and not made.late:
-            yield name, g
 
 
 def given(seed, worker):

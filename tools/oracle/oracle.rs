@@ -27,9 +27,9 @@ const RULE: u16 = 32768;
 // A question has so much of the processor's time, and so much more for each symbol: costs that return may take some
 // 65536 rounds over all symbols. Where the costs have run out of time, a sentence that asks for them does so too, and
 // one that does not takes next to none: it has the third time.
-const COSTS: Duration = Duration::from_millis(4);
+const COSTS: Duration = Duration::from_millis(3);
 const SYMBOL: Duration = Duration::from_micros(200);
-const SENTENCE: Duration = Duration::from_millis(2);
+const SENTENCE: Duration = Duration::from_millis(1);
 const BYTES: u64 = 512 << 20;
 
 struct Flat {

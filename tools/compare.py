@@ -15,6 +15,7 @@ and the program exits with 1.
 """
 import collections
 import concurrent.futures
+import functools
 import itertools
 import json
 import random
@@ -37,6 +38,7 @@ STEPS = 100_000  # so many steps of min_sentence fit well into the oracle's time
 
 
 def part(answer, path):
+    """What stands there in an answer: names and numbers with spaces between."""
     for word in path.split():
         answer = answer[int(word) if word.isdigit() else word]
     return answer
@@ -86,6 +88,7 @@ def plain_answer(g):
 
 
 def kind_of(outcome):
+    """Returned, panicked, or what ran out."""
     return outcome if isinstance(outcome, str) else next(iter(outcome))
 
 
@@ -194,7 +197,7 @@ class Comparer(Comparison):
         if ours != due:
             self.unexplained("sentence: ours is not document 01's", f"rule {r}: {ours} and not {due}")
         elif self.reading.asks(r) and costs != "returned":
-            self.without_costs(r, kind, costs)
+            self.without_costs(r, kind)
         elif self.reading.dear(self.reading.used(r)):
             self.panics(r, kind)
         elif kind in STOPPED and self.reading.steps(r) > STEPS:
@@ -204,11 +207,11 @@ class Comparer(Comparison):
         else:
             self.unexplained(f"sentence: {kind}", f"rule {r}")
 
-    def without_costs(self, r, kind, costs):
-        if kind in STOPPED if costs in STOPPED else kind == costs:
+    def without_costs(self, r, kind):
+        if kind in STOPPED and self.reading.endless or kind == "panicked" and self.reading.overflows:
             self.count("sentence: the Rust gives none: its costs are not given")
         else:
-            self.unexplained(f"sentence: {kind}, costs {costs}", f"rule {r}")
+            self.unexplained(f"sentence: {kind}, costs not given", f"rule {r}")
 
     def panics(self, r, kind):
         if kind == "panicked":
@@ -228,19 +231,20 @@ class Comparer(Comparison):
 def given(seed, worker):
     """One worker's part of all small grammars, each followed by a random one; now and then a large one."""
     small = itertools.islice(grammars.small(), worker, None, WORKERS)
-    usual = [name for name in grammars.shapes if name not in grammars.large]
+    large = list(grammars.large)
+    usual = [name for name in grammars.shapes if name not in large]
     for k in itertools.count():
         g = next(small, None)
         if g:
             yield "all small", f"small {worker + k * WORKERS}", g
-        yield drawn(usual[k % len(usual)], f"{seed} {worker} {k}")
+        yield drawn(usual[k % len(usual)], seed, worker, k)
         if k % LARGE_EVERY == LARGE_EVERY // 10:
-            yield drawn(list(grammars.large)[(worker + k // LARGE_EVERY) % len(grammars.large)], f"{seed} {worker} {k}")
+            yield drawn(large[(worker + k // LARGE_EVERY) % len(large)], seed, worker, k)
 
 
-def drawn(shape, name):
-    """A random grammar of that shape."""
-    name = f"{shape} {name}"
+def drawn(shape, *numbers):
+    """The random grammar of that shape and these numbers."""
+    name = " ".join(str(word) for word in (shape, *numbers))
     return shape, name, grammars.shapes[shape](random.Random(name))
 
 
@@ -248,7 +252,7 @@ def comparer(words):
     return Comparer(Asked(ORACLE), Asked(words) if words else plain_answer)
 
 
-def work(worker, words, seed, deadline):
+def work(words, seed, deadline, worker):
     done = comparer(words)
     for shape, name, g in given(seed, worker):
         if time.monotonic() > deadline:
@@ -269,7 +273,7 @@ def compared(words, seconds, seed):
     missing = {said[0] for said in SAID} - names
     assert not missing, missing
     with concurrent.futures.ProcessPoolExecutor(WORKERS) as pool:
-        for result in pool.map(work, range(WORKERS), *zip(*[(words, seed, deadline)] * WORKERS)):
+        for result in pool.map(functools.partial(work, words, seed, deadline), range(WORKERS)):
             first.add(result)
     return first
 

@@ -26,6 +26,7 @@ from plain import MOST
 USUAL = 100_000
 BATCH = 1000
 WORD = (1 << 32) - 1
+LONGEST = 512 * 16  # the words of the largest table
 ENTRIES = 0, 1, 254, 65534, MOST, MOST + 1, MOST + 2, WORD
 
 # Shapes whose answers take the plain side some milliseconds or more are drawn less often.
@@ -79,7 +80,9 @@ def any_mode(draw):
 
 
 def any_length(draw, length):
-    """The length due in most cases; else one less or more, none, or twice as much."""
+    """The length due in most cases; else one less or more, none, or twice as much. Where a refused grammar's would be
+    longer than the largest table, that one's."""
+    length = min(length, LONGEST)
     if draw.random() < 0.9:
         return length
     return draw.choice((max(length - 1, 0), length + 1, 0, 2 * length))

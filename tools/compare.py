@@ -10,8 +10,8 @@ FIRST, EMPTY, mode 1 FOLLOW and all paths must be equal; so must the costs where
 it returns and no production used has a rule followed by a token or by a rule whose sentence is not empty. At such a
 place the Rust's sentence must be the one that taking the rest again gives. Where the Rust does not return, or panics,
 the grammar must have what the named difference says, worked out from the grammar alone. What we answer there must be
-what document 01 says. Each kind is counted; a difference of no kind is shown with the smallest grammar that has it,
-and the program exits with 1.
+what document 01 says. Each kind is counted, and each kind of difference shown with the smallest grammar that has it;
+the program exits with 1 if one is not explained.
 """
 import collections
 import concurrent.futures
@@ -33,6 +33,7 @@ from reading import Reading
 ORACLE = [str(TOP / "target" / "oracle" / "oracle")]
 WORKERS = 2
 LARGE_EVERY = 1000  # so many random grammars from a large one to the next, which takes seconds
+UNEXPLAINED = "UNEXPLAINED "
 STOPPED = ("out of time", "out of memory")
 STEPS = 100_000  # so many steps of min_sentence fit well into the oracle's time
 
@@ -92,21 +93,26 @@ def kind_of(outcome):
     return outcome if isinstance(outcome, str) else next(iter(outcome))
 
 
+def size(g):
+    return len(g.symbols), len(g.owners)
+
+
 class Comparison:
-    """Counts by kind and by shape, and the smallest grammar of each difference that is not explained."""
+    """Counts by kind and by shape, and the smallest grammar of each kind of difference."""
 
     def __init__(self):
-        self.kinds, self.shapes, self.wrong = collections.Counter(), collections.Counter(), {}
+        self.kinds, self.shapes, self.smallest = collections.Counter(), collections.Counter(), {}
 
     def add(self, other):
         self.kinds += other.kinds
         self.shapes += other.shapes
-        for kind, (details, name, g) in other.wrong.items():
-            self.keep(kind, details, name, g)
+        for kind, (g, details) in other.smallest.items():
+            self.keep(kind, g, details)
 
-    def keep(self, kind, details, name, g):
-        if kind not in self.wrong or len(grammars.line(g)) < len(grammars.line(self.wrong[kind][-1])):
-            self.wrong[kind] = details, name, g
+    def keep(self, kind, g, details):
+        """Keeps the grammar if none so far has fewer symbols, or as many and fewer productions."""
+        if kind not in self.smallest or size(g) < size(self.smallest[kind][0]):
+            self.smallest[kind] = g, details
 
 
 class Comparer(Comparison):
@@ -119,9 +125,12 @@ class Comparer(Comparison):
     def count(self, kind):
         self.kinds[kind] += 1
 
+    def differs(self, kind, details=""):
+        self.count(kind)
+        self.keep(kind, self.g, details)
+
     def unexplained(self, kind, details):
-        self.count(f"UNEXPLAINED {kind}")
-        self.keep(kind, details, self.name, self.g)
+        self.differs(f"{UNEXPLAINED}{kind}", f"{self.name}: {details[:300]}: ")
 
     def same(self, kind, rust, ours):
         if rust == ours:
@@ -166,7 +175,7 @@ class Comparer(Comparison):
         elif due == self.rust["follow"]:
             self.count("FOLLOW, mode 2: the same")
         else:
-            self.count("FOLLOW, mode 2: more, since the Rust looks one symbol ahead")
+            self.differs("FOLLOW, mode 2: more, since the Rust looks one symbol ahead")
 
     def beyond(self):
         """Production P, the path from rule R to 0 and that from 0 to R."""
@@ -185,9 +194,9 @@ class Comparer(Comparison):
         elif kind == "returned" and endless is None:
             self.same("costs", [returned(cost) for cost in self.rust["costs"]["returned"]], ours)
         elif kind in STOPPED and endless is not None:
-            self.count(f"costs: the Rust does not return: {endless}")
+            self.differs(f"costs: the Rust does not return: {endless}")
         elif kind == "panicked" and overflows is not None:
-            self.count(f"costs: the Rust panics: {overflows}")
+            self.differs(f"costs: the Rust panics: {overflows}")
         else:
             self.unexplained(f"costs: {kind}", f"to not return: {endless}; to panic: {overflows}")
 
@@ -197,25 +206,26 @@ class Comparer(Comparison):
         if ours != due:
             self.unexplained("sentence: ours is not document 01's", f"rule {r}: {ours} and not {due}")
         elif self.reading.asks(r) and costs != "returned":
-            self.without_costs(r, kind)
+            self.without_costs(r, kind, ours)
         elif self.reading.dear(self.reading.used(r)):
             self.panics(r, kind)
         elif kind in STOPPED and self.reading.steps(r) > STEPS:
-            self.count("sentence: the Rust does not return: the rest taken again, over 100,000 steps")
+            self.differs("sentence: the Rust does not return: the rest taken again, over 100,000 steps")
         elif kind == "returned":
             self.both(r, outcome, ours)
         else:
             self.unexplained(f"sentence: {kind}", f"rule {r}")
 
-    def without_costs(self, r, kind):
+    def without_costs(self, r, kind, ours):
         if kind in STOPPED and self.reading.endless or kind == "panicked" and self.reading.overflows:
-            self.count("sentence: the Rust gives none: its costs are not given")
+            answer = f"refused {ours['refused']}" if "refused" in ours else "a sentence"
+            self.differs(f"sentence: the Rust gives none, since its costs are not given: here {answer}")
         else:
             self.unexplained(f"sentence: {kind}, costs not given", f"rule {r}")
 
     def panics(self, r, kind):
         if kind == "panicked":
-            self.count("sentence: the Rust panics: its own sum above 65535")
+            self.differs("sentence: the Rust panics: its own sum above 65535")
         else:
             self.unexplained(f"sentence: {kind}, its own sum above 65535", f"rule {r}")
 
@@ -225,7 +235,7 @@ class Comparer(Comparison):
         elif rust == ours or rust != returned(*self.reading.again(r)):
             self.unexplained("sentence: not what taking the rest again gives", f"rule {r}: {rust}")
         else:
-            self.count("sentence: differs at a place that document 01 names, as taking the rest again gives")
+            self.differs("sentence: differs at a place that document 01 names, as taking the rest again gives")
 
 
 def given(seed, worker):
@@ -285,9 +295,10 @@ def main(words):
         for name in sorted(counts):
             print(f"{counts[name]:8}  {name}")
         print()
-    for kind, (details, name, g) in result.wrong.items():
-        print(f"unexplained: {kind}: {details[:300]}: {name}: {grammars.shown(g)[:1000]}")
-    wrong = sum(number for kind, number in result.kinds.items() if kind.startswith("UNEXPLAINED"))
+    print("the smallest grammar of each difference:")
+    for kind, (g, details) in sorted(result.smallest.items()):
+        print(f"{kind}: {details}{grammars.shown(g)[:1000]}")
+    wrong = sum(number for kind, number in result.kinds.items() if kind.startswith(UNEXPLAINED))
     print(f"{sum(result.shapes.values())} grammars, {wrong} unexplained")
     return 1 if wrong else 0
 

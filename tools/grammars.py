@@ -7,6 +7,7 @@ tools/oracle.
 """
 import itertools
 
+from block_text import blocks
 from plain import RULE, Grammar
 
 WORD_EDGES = (31, 32, 33, 64, 511, 512)  # sizes around a word's bits, and the largest
@@ -31,7 +32,7 @@ def shown(g):
     def name(s):
         return f"R{s - RULE}" if s >= RULE else f"t{s}"
 
-    lines = [f"R{r}: " + " ".join(name(s) for s in body) for r, body in g.productions()]
+    lines = [f"R{r}: " + " ".join(blocks.folded(name(s) for s in body)) for r, body in g.productions()]
     return "; ".join(lines) + "; costs " + " ".join(str(cost) for cost in g.costs)
 
 

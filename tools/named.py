@@ -4,6 +4,9 @@ from block_text import TOP, blocks
 
 # Inputs of docs/DIFFERENCES.md that are no examples, in the form of bin/blocks; and document 01's sixty rules.
 CASES = {
+    "ahead": "tokens c eof|rules start A B|start: A|A: A B c|B:",
+    "rest": "tokens a eof|rules start A B|start: A|A: B a|B:",
+    "empty loop": "tokens eof|rules start A|start: A|A: A|A:",
     "order": "tokens a b eof|rules start X Y|start: X|X: Y a|Y: b",
     "free loop": "tokens f=0 a eof|rules start A|start: A|A: A f|A: a",
     "bound loop": "tokens a eof|rules start A|start: A|A: A A|A: a",
@@ -41,6 +44,10 @@ SAID = [
     ("g5-either", "costs", OVERFLOW, "costs 1", returned(1)),
     ("g6", "costs", returned(1, 1), "costs 1", returned(1)),
     ("g6", "sentences 1", returned(1), "sentences 1", returned(1)),
+    ("ahead", "follow 1", [1], "corrected 1", [0, 1]),
+    ("rest", "sentences 1", returned(0, 0), "sentences 1", returned(0)),
+    ("empty loop", "costs", LATE, "costs 1", returned(0)),
+    ("empty loop", "sentences 1", LATE, "sentences 1", refused(14)),
     ("order", "sentences 1", returned(0, 1, 0), "sentences 1", returned(1, 0)),
     ("free loop", "costs", LATE, "costs 1", returned(1)),
     ("bound loop", "costs", LATE, "costs 1", returned(1)),

@@ -32,7 +32,7 @@ from reading import Reading
 
 ORACLE = [str(TOP / "target" / "oracle" / "oracle")]
 WORKERS = 2
-LARGE_EVERY = 1000  # so many random grammars from a large one to the next, which takes seconds
+LARGE_EVERY = 2000  # so many random grammars from a large one to the next, which takes seconds
 UNEXPLAINED = "UNEXPLAINED "
 STOPPED = ("out of time", "out of memory")
 STEPS = 100_000  # so many steps of min_sentence fit well into the oracle's time
@@ -248,7 +248,7 @@ def given(seed, worker):
         if g:
             yield "all small", f"small {worker + k * WORKERS}", g
         yield drawn(usual[k % len(usual)], seed, worker, k)
-        if k % LARGE_EVERY == LARGE_EVERY // 10:
+        if k % LARGE_EVERY == LARGE_EVERY // 20:
             yield drawn(large[(worker + k // LARGE_EVERY) % len(large)], seed, worker, k)
 
 

@@ -257,7 +257,7 @@ def dear_flat(draw):
 
 def long_sentences(draw):
     """Lengths around 65535, or shorter, of one token doubled; it may cost something."""
-    levels = draw.choice((3, 6, 16))
+    levels = draw.choice((3, 3, 3, 5, 5, 5, 7, 16))
     number = (1 << levels) - 1 + draw.randint(-2, 2)
     top = levels + 2
     bodies = doubled(1, levels + 1, [0]) + [(top, parts(1, number)), (top + 1, [RULE + top])]
@@ -266,7 +266,7 @@ def long_sentences(draw):
 
 def single_file(draw):
     """Rules in one chain of single rules, in any order of numbers: deep, and without a rule followed by another."""
-    rules = list(range(1, draw.choice((5, 20, 70)) + 1))
+    rules = list(range(1, draw.choice((5, 5, 10, 40)) + 1))
     draw.shuffle(rules)
     bodies = [(r, [0] * draw.randint(0, 1) + [RULE + after]) for r, after in zip(rules, rules[1:])]
     return shuffled(draw, len(rules) + 1, [draw.randint(0, 2), 0], bodies + [(rules[-1], [0])], rules[0])

@@ -27,8 +27,8 @@ const RULE: u16 = 32768;
 // A question has so much of the processor's time, so much more for each symbol, and no more than the third: costs that
 // return or panic may take some 65536 rounds over all symbols. Where the costs have run out of time, a sentence that
 // asks for them does so too, and one that does not takes next to none: it has the fourth.
-const QUESTION: Duration = Duration::from_millis(2);
-const SYMBOL: Duration = Duration::from_millis(1);
+const QUESTION: Duration = Duration::from_millis(3);
+const SYMBOL: Duration = Duration::from_micros(400);
 const LONGEST: Duration = Duration::from_secs(2);
 const SENTENCE: Duration = Duration::from_millis(1);
 const BYTES: u64 = 512 << 20;

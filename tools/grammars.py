@@ -142,6 +142,14 @@ def middle_recursion(draw):
     return recursive(draw, True, True)
 
 
+def own_rule(draw):
+    """Productions of rules alone, each with its own rule among them, and short ways out."""
+    rules, tokens = sizes(draw, 4, 3)
+    bodies = [(r, any_body(draw, rules, [], 2) + [RULE + r] + any_body(draw, rules, [], 2)) for r in rules]
+    bodies += [(r, any_body(draw, [], tokens, 1)) for r in rules]
+    return shuffled(draw, len(rules) + 1, any_costs(draw, len(tokens)), bodies)
+
+
 def ring(rules):
     """Pairs of a rule and the next, the last with the first."""
     return [(r, rules[(k + 1) % len(rules)]) for k, r in enumerate(rules)]
@@ -327,9 +335,9 @@ def one_limit(draw):
 
 large = {shape.__name__: shape for shape in (most_rules, one_limit, at_limits)}
 shapes = {shape.__name__: shape for shape in (
-    anything, way_out, layered, left_recursion, right_recursion, middle_recursion, mutual_recursion, unit_cycles,
-    empty_chains, no_sentence, unreached, free_tokens, equal_choices, dear, dear_flat, long_sentences, single_file,
-    wide_tokens, many_rules, wide_both)} | large
+    anything, way_out, layered, left_recursion, right_recursion, middle_recursion, own_rule, mutual_recursion,
+    unit_cycles, empty_chains, no_sentence, unreached, free_tokens, equal_choices, dear, dear_flat, long_sentences,
+    single_file, wide_tokens, many_rules, wide_both)} | large
 
 
 # Damage. Each function makes its refusal due, whatever else is due; a lower one may come to be due with it.

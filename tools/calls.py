@@ -11,7 +11,7 @@ LISTS = 4096, 4097, 16384, 512  # the lengths of the lists that the file reader 
 
 
 class Call(NamedTuple):
-    takes: str  # what it takes behind the grammar; row, marks and entries are lent words, room is lent numbers
+    takes: str  # behind the grammar: numbers by what they count; lists of words: marks, row, entries; and room
     refusals: tuple  # its own; besides, each gives 1 to 6
     values: int  # the values of an answer
     make: object
@@ -223,7 +223,7 @@ def read_blocks(file, *lists):
     return [g.rules, len(g.costs), len(g.owners), len(g.symbols)]
 
 
-# In the order of the driver's table (tools/driver/calls.c).
+# In the order of the driver's table (tools/driver/calls.c). The last one takes no grammar, but a file and four lists.
 CALLS = {
     "check": Call("", (), 1, check),
     "production": Call("prod", (11,), 2, production),
@@ -244,7 +244,7 @@ CALLS = {
     "follow_visit": Call("mode prod marks marks row", (7, 8, 11), 1, follow_visit),
     "follow_fill": Call("mode marks marks row", (7, 8), 1, follow_fill),
     "min_sentence": Call("rule row entries entries room", (7, 9, 12, 13, 14, 15), 1, min_sentence),
-    "read_blocks": Call("file and four lists, no grammar", (7, 20, 21, 22, 23), 4, read_blocks),
+    "read_blocks": Call("", (7, 20, 21, 22, 23), 4, read_blocks),
 }
 
 

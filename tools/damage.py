@@ -26,16 +26,19 @@ from plain import MOST
 USUAL = 100_000
 BATCH = 1000
 WORD = (1 << 32) - 1
-ENTRIES = 0, 1, 254, 65534, MOST, MOST + 1, MOST + 2, WORD
+LONGEST = 512 * 16  # the words of the largest table
+ENTRIES = 0, 1, 2, MOST - 2, MOST - 1, MOST, MOST + 1, MOST + 2, WORD
 
 # Shapes whose answers take the plain side some milliseconds or more are drawn less often.
 SLOW = ["long_sentences", "single_file", "many_rules", "wide_both", "wide_tokens"]
 QUICK = [name for name in grammars.shapes if name not in SLOW and name not in grammars.large]
-# Shapes whose sentences are refused, and the calls that refuse them.
-HARD = ["no_sentence", "dear", "dear_flat", "unit_cycles"]
 SENTENCES = ["min_sentence_cost", "min_sentence"]
-# The calls to draw from: more of those with many refusals. File reads have the longest lists.
-DRAWN = [name for name in calls.CALLS if name != "read_blocks"] * 2 + SENTENCES * 6 + ["read_blocks"] * 3
+VISITS = ["cost_visit", "follow_visit"]
+# The calls to draw from: more of those with many refusals or cases. File reads have the longest lists.
+DRAWN = [name for name in calls.CALLS if name != "read_blocks"] * 2 + SENTENCES * 6 + VISITS * 3 + ["read_blocks"] * 3
+# The shapes that show most of a call: sentences that are refused, visits that read what they have written.
+TELLING = {name: ["no_sentence", "dear", "dear_flat", "unit_cycles"] for name in SENTENCES}
+TELLING |= {name: ["own_rule", "empty_chains", "right_recursion"] for name in VISITS}
 
 
 # Grammars.
@@ -79,7 +82,9 @@ def any_mode(draw):
 
 
 def any_length(draw, length):
-    """The length due in most cases; else one less or more, none, or twice as much."""
+    """The length due in most cases; else one less or more, none, or twice as much. Where a refused grammar's would be
+    longer than the largest table, that one's."""
+    length = min(length, LONGEST)
     if draw.random() < 0.9:
         return length
     return draw.choice((max(length - 1, 0), length + 1, 0, 2 * length))
@@ -98,9 +103,12 @@ def any_marks(draw, length):
 def any_entries(draw, length):
     """Costs or lengths: none known, edges, or anything."""
     length = any_length(draw, length)
-    if draw.random() < 0.2:
+    kind = draw.randrange(5)
+    if kind == 0:
         return [MOST + 1] * length
-    return [draw.choice((draw.choice(ENTRIES), draw.randint(0, 9), draw.getrandbits(32))) for _ in range(length)]
+    if kind < 4:
+        return [draw.choice(ENTRIES) for _ in range(length)]
+    return [draw.choice((draw.randint(0, MOST), draw.getrandbits(32))) for _ in range(length)]
 
 
 def any_room(draw, g, rule):
@@ -191,7 +199,7 @@ def any_call(draw):
     name = draw.choice(DRAWN)
     if name == "read_blocks":
         return name, [list(any_file(draw)), *any_lists(draw)]
-    g = any_grammar(draw, HARD if name in SENTENCES and draw.random() < 0.6 else QUICK)
+    g = any_grammar(draw, TELLING.get(name, QUICK) if draw.random() < 0.6 else QUICK)
     return name, [g, *parameters(draw, name, g)]
 
 

@@ -7,6 +7,7 @@ tools/oracle.
 """
 import itertools
 
+from block_text import blocks
 from plain import RULE, Grammar
 
 WORD_EDGES = (31, 32, 33, 64, 511, 512)  # sizes around a word's bits, and the largest
@@ -31,7 +32,7 @@ def shown(g):
     def name(s):
         return f"R{s - RULE}" if s >= RULE else f"t{s}"
 
-    lines = [f"R{r}: " + " ".join(name(s) for s in body) for r, body in g.productions()]
+    lines = [f"R{r}: " + " ".join(blocks.folded(name(s) for s in body)) for r, body in g.productions()]
     return "; ".join(lines) + "; costs " + " ".join(str(cost) for cost in g.costs)
 
 
@@ -139,6 +140,14 @@ def right_recursion(draw):
 
 def middle_recursion(draw):
     return recursive(draw, True, True)
+
+
+def own_rule(draw):
+    """Productions of rules alone, each with its own rule among them, and short ways out."""
+    rules, tokens = sizes(draw, 4, 3)
+    bodies = [(r, any_body(draw, rules, [], 2) + [RULE + r] + any_body(draw, rules, [], 2)) for r in rules]
+    bodies += [(r, any_body(draw, [], tokens, 1)) for r in rules]
+    return shuffled(draw, len(rules) + 1, any_costs(draw, len(tokens)), bodies)
 
 
 def ring(rules):
@@ -256,7 +265,7 @@ def dear_flat(draw):
 
 def long_sentences(draw):
     """Lengths around 65535, or shorter, of one token doubled; it may cost something."""
-    levels = draw.choice((3, 6, 16))
+    levels = draw.choice((3, 3, 3, 5, 5, 5, 7, 16))
     number = (1 << levels) - 1 + draw.randint(-2, 2)
     top = levels + 2
     bodies = doubled(1, levels + 1, [0]) + [(top, parts(1, number)), (top + 1, [RULE + top])]
@@ -265,7 +274,7 @@ def long_sentences(draw):
 
 def single_file(draw):
     """Rules in one chain of single rules, in any order of numbers: deep, and without a rule followed by another."""
-    rules = list(range(1, draw.choice((5, 20, 70)) + 1))
+    rules = list(range(1, draw.choice((5, 5, 10, 40)) + 1))
     draw.shuffle(rules)
     bodies = [(r, [0] * draw.randint(0, 1) + [RULE + after]) for r, after in zip(rules, rules[1:])]
     return shuffled(draw, len(rules) + 1, [draw.randint(0, 2), 0], bodies + [(rules[-1], [0])], rules[0])
@@ -326,9 +335,9 @@ def one_limit(draw):
 
 large = {shape.__name__: shape for shape in (most_rules, one_limit, at_limits)}
 shapes = {shape.__name__: shape for shape in (
-    anything, way_out, layered, left_recursion, right_recursion, middle_recursion, mutual_recursion, unit_cycles,
-    empty_chains, no_sentence, unreached, free_tokens, equal_choices, dear, dear_flat, long_sentences, single_file,
-    wide_tokens, many_rules, wide_both)} | large
+    anything, way_out, layered, left_recursion, right_recursion, middle_recursion, own_rule, mutual_recursion,
+    unit_cycles, empty_chains, no_sentence, unreached, free_tokens, equal_choices, dear, dear_flat, long_sentences,
+    single_file, wide_tokens, many_rules, wide_both)} | large
 
 
 # Damage. Each function makes its refusal due, whatever else is due; a lower one may come to be due with it.

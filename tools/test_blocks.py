@@ -1,18 +1,13 @@
 #!/usr/bin/env python3
 """Tests of bin/blocks. Run alone, or with the others of this folder: python3 -m unittest discover -s tools"""
-import importlib.machinery
-import importlib.util
-import pathlib
 import random
 import struct
 import sys
 import unittest
 
 sys.dont_write_bytecode = True
-TOP = pathlib.Path(__file__).resolve().parent.parent
-LOADER = importlib.machinery.SourceFileLoader("blocks", str(TOP / "bin" / "blocks"))
-blocks = importlib.util.module_from_spec(importlib.util.spec_from_loader("blocks", LOADER))
-LOADER.exec_module(blocks)
+from block_text import TOP, blocks
+
 TEXTS = sorted((TOP / "examples").glob("*.txt"))
 G1 = (TOP / "examples" / "g1.txt").read_text()
 

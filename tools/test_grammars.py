@@ -91,7 +91,8 @@ class Calls(unittest.TestCase):
 
     def test_file(self):
         lists = [[9] * length for length in calls.LISTS]
-        self.assertEqual(calls.answer("read_blocks", [list((EXAMPLES / "g1.blk").read_bytes()), *lists]), [0, 4, 4, 6, 7])
+        file = list((EXAMPLES / "g1.blk").read_bytes())
+        self.assertEqual(calls.answer("read_blocks", [file, *lists]), [0, 4, 4, 6, 7])
         self.assertEqual(lists[0][:7], [1, 2, 2, 3, 3, 0, 9])
 
 

@@ -46,7 +46,10 @@ static int read_grammar(void) {
     if (rules > RULES || tokens > TOKENS || prods > PRODS || length > SYMBOLS) return -1;
     if (!numbers(owners, prods) || !numbers(starts, prods + 1) || !numbers(symbols, length) || !numbers(bytes, tokens))
         return -1;
-    for (uint32_t t = 0; t < tokens; t++) costs[t] = (uint8_t)bytes[t];
+    for (uint32_t t = 0; t < tokens; t++) {
+        if (bytes[t] > 255) return -1;
+        costs[t] = (uint8_t)bytes[t];
+    }
     return 1;
 }
 

@@ -26,12 +26,13 @@ use cfgrammar::yacc::{SentenceGenerator, YaccGrammar, YaccKind, YaccOriginalActi
 use cfgrammar::{PIdx, RIdx, Symbol, TIdx};
 
 const RULE: u16 = 32768;
-// A question has so much of the processor's time, and so much more for each symbol: costs that return may take some
-// 65536 rounds over all symbols. Where the costs have run out of time, a sentence that asks for them does so too, and
-// one that does not takes next to none: it has the third time.
-const COSTS: Duration = Duration::from_millis(4);
-const SYMBOL: Duration = Duration::from_micros(200);
-const SENTENCE: Duration = Duration::from_millis(2);
+// A question has so much of the processor's time, so much more for each symbol, and no more than the third: costs that
+// return or panic may take some 65536 rounds over all symbols. Where the costs have run out of time, a sentence that
+// asks for them does so too, and one that does not takes next to none: it has the fourth.
+const QUESTION: Duration = Duration::from_millis(3);
+const SYMBOL: Duration = Duration::from_micros(400);
+const LONGEST: Duration = Duration::from_secs(2);
+const SENTENCE: Duration = Duration::from_millis(1);
 const BYTES: u64 = 512 << 20;
 
 struct Flat {
@@ -160,7 +161,7 @@ fn caught(question: impl FnOnce() -> Vec<u16>) -> String {
 
 /// The outcomes of the costs and of each rule's sentence.
 fn outcomes(grm: &YaccGrammar<u16>, flat: &Flat) -> Vec<String> {
-    let most = COSTS + SYMBOL * flat.symbols.len() as u32;
+    let most = LONGEST.min(QUESTION + SYMBOL * flat.symbols.len() as u32);
     let mut found: Vec<String> = Vec::new();
     while found.len() <= flat.rules.into() {
         let time = if found.first().is_some_and(|costs| costs == OUT_OF_TIME) { SENTENCE } else { most };

@@ -1,0 +1,74 @@
+"""The grammars with names that bin/compare runs first, and what docs/DIFFERENCES.md and document 01 say of them."""
+import plain
+from block_text import TOP, blocks
+
+# Inputs of docs/DIFFERENCES.md that are no examples, in the form of bin/blocks; and document 01's sixty rules.
+CASES = {
+    "ahead": "tokens c eof|rules start A B|start: A|A: A B c|B:",
+    "rest": "tokens a eof|rules start A B|start: A|A: B a|B:",
+    "empty loop": "tokens eof|rules start A|start: A|A: A|A:",
+    "order": "tokens a b eof|rules start X Y|start: X|X: Y a|Y: b",
+    "free loop": "tokens f=0 a eof|rules start A|start: A|A: A f|A: a",
+    "bound loop": "tokens a eof|rules start A|start: A|A: A A|A: a",
+    "no way out": "tokens eof|rules start A|start: A|A: A",
+    "one without": "tokens a eof|rules start A B|start: A|A: a|B: B",
+    "own sum": "tokens a b=255 eof|rules start A B|start: A|A:|A: B B a|B: b*129",
+    "again": "tokens eof|rules start A B|start: A|A: B*40|B:",
+    "sixty": "tokens eof|rules start " + " ".join(f"r{k}" for k in range(1, 61)) + "|start: r1"
+    + "".join(f"|r{k}: r{k + 1}*2" for k in range(1, 60)) + "|r60:",
+    "513 rules": "tokens a eof|rules start " + " ".join(f"r{k}" for k in range(1, 513)) + "|start: r1"
+    + "".join(f"|r{k}: a" for k in range(1, 513)),
+}
+OVERFLOW = {"panicked": "Overflow occurred when calculating rule costs"}
+LATE = "out of time"
+
+
+def returned(*numbers):
+    return {"returned": [*numbers]}
+
+
+def refused(number):
+    return {"refused": number}
+
+
+# What is said of one grammar: a part of the Rust's answer, and that of ours.
+SAID = [
+    ("g1", "sentences 0", returned(0, 0), "sentences 0", returned(0)),
+    ("g2", "follow 2", [1], "corrected 2", [1, 2]),
+    ("g2", "follow 2", [1], "follow 2", [1]),
+    ("g3", "costs", LATE, "costs 1", returned(1)),
+    ("g3", "sentences 1", LATE, "sentences 1", refused(14)),
+    ("g4", "costs", OVERFLOW, "costs 1", refused(12)),
+    ("g5", "costs", returned(65535, 65535), "costs 1", returned(65535)),
+    ("g5-dear", "costs", OVERFLOW, "costs 1", refused(13)),
+    ("g5-either", "costs", OVERFLOW, "costs 1", returned(1)),
+    ("g6", "costs", returned(1, 1), "costs 1", returned(1)),
+    ("g6", "sentences 1", returned(1), "sentences 1", returned(1)),
+    ("ahead", "follow 1", [1], "corrected 1", [0, 1]),
+    ("rest", "sentences 1", returned(0, 0), "sentences 1", returned(0)),
+    ("empty loop", "costs", LATE, "costs 1", returned(0)),
+    ("empty loop", "sentences 1", LATE, "sentences 1", refused(14)),
+    ("order", "sentences 1", returned(0, 1, 0), "sentences 1", returned(1, 0)),
+    ("free loop", "costs", LATE, "costs 1", returned(1)),
+    ("bound loop", "costs", LATE, "costs 1", returned(1)),
+    ("bound loop", "sentences 1", LATE, "sentences 1", returned(0)),
+    ("no way out", "costs", LATE, "costs 1", refused(12)),
+    ("one without", "costs", LATE, "costs", [returned(1), returned(1), refused(12)]),
+    ("own sum", "costs", returned(0, 0, 32895), "costs 2", returned(32895)),
+    ("own sum", "sentences 1", {"panicked": "attempt to add with overflow"}, "sentences 1", returned()),
+    ("again", "costs", returned(0, 0, 0), "costs 1", returned(0)),
+    ("again", "sentences 1", LATE, "sentences 1", returned()),
+    ("sixty", "sentences 1", LATE, "sentences 1", returned()),
+    ("513 rules", "sentences 512", returned(0), "refused", 1),
+]
+
+
+def named():
+    """The examples that are grammars, and the cases."""
+    texts = {path.stem: path.read_text() for path in sorted((TOP / "examples").glob("*.txt"))}
+    texts |= {name: text.replace("|", "\n") for name, text in CASES.items()}
+    for name, text in texts.items():
+        made = blocks.Text(text)
+        g = plain.Grammar(made.rules, made.owners, made.starts, made.symbols, made.costs)
+        if not made.raw and not made.early and not made.late:
+            yield name, g

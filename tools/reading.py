@@ -1,0 +1,126 @@
+"""What document 01 says of the costs and sentences of a grammar, and what the loops of the Rust make of them: where they
+do not return, where they panic, and what they write. All is worked out from the grammar alone."""
+import collections
+import functools
+
+import plain
+from named import refused, returned
+from plain import MOST, RULE
+
+
+def circle(links):
+    return any(r in plain.reached(r, links) for r in links)
+
+
+class Reading:
+    """What document 01 says of costs and sentences of one grammar, and what the Rust's loops make of them."""
+
+    def __init__(self, g):
+        self.g = g
+        self.bodies = collections.defaultdict(list)  # of each rule
+        for r, body in g.productions():
+            self.bodies[r].append(body)
+        self.known = plain.least_costs(g)
+        fit = {r: cost for r, cost in self.known.items() if cost <= MOST}
+        self.choice = plain.cheapest_first(g, fit)
+        self.lengths = plain.sentence_lengths(self.choice)
+        self.taken, self.written = {}, {}
+
+    def cost(self, r):
+        if r not in self.known:
+            return refused(12)
+        return returned(self.known[r]) if self.known[r] <= MOST else refused(13)
+
+    def sentence(self, r):
+        if r not in self.choice:
+            return self.cost(r)
+        if r not in self.lengths:
+            return refused(14)
+        if self.lengths[r] > MOST:
+            return refused(15)
+        return returned(*plain.expanded(r, self.choice, self.lengths))
+
+    def costless(self, s, rules):
+        return s - RULE in rules if s >= RULE else self.g.costs[s] == 0
+
+    def loop(self, rules):
+        """Whether a rule leads back to itself over productions whose other symbols are free tokens or these rules."""
+        links = {}
+        for r, body in self.g.productions():
+            for k, s in enumerate(body):
+                if s >= RULE and all(self.costless(x, rules) for x in body[:k] + body[k + 1 :]):
+                    links.setdefault(r, set()).add(s - RULE)
+        return circle(links)
+
+    def stuck(self):
+        """The rules whose lower bound stays 0: the largest set in which each has a production of free tokens and of
+        such rules."""
+        held = set(range(self.g.rules))
+        while True:
+            left = {r for r, body in self.g.productions() if all(self.costless(s, held) for s in body)} & held
+            if left == held:
+                return held
+            held = left
+
+    @functools.cached_property
+    def endless(self):
+        """Why rule_min_costs never returns; None if it must return or panic."""
+        if len(self.known) < self.g.rules:
+            return "a rule without a sentence"
+        if self.loop({r for r, cost in self.known.items() if cost == 0}):
+            return "a loop that adds no cost"
+        if self.loop(self.stuck()):
+            return "a loop that adds only rules whose lower bound stays 0"
+        return None
+
+    def dear(self, rules):
+        """Whether a production of these rules costs more than 65535."""
+        prices = [plain.price(self.g, body, self.known) for r in rules for body in self.bodies[r]]
+        return any(price is not None and price > MOST for price in prices)
+
+    @functools.cached_property
+    def overflows(self):
+        """Why rule_min_costs panics; None if it must not."""
+        if len(self.known) < self.g.rules:
+            return "a rule without a sentence"
+        return "a sum above 65535" if self.dear(range(self.g.rules)) else None
+
+    def asks(self, r):
+        """Whether the sentence of a rule asks for costs."""
+        return any(plain.rules_of(body) for body in self.bodies[r])
+
+    def used(self, r):
+        """The rules whose first choice is taken."""
+        return {r} | plain.reached(r, {rule: plain.rules_of(body) for rule, body in self.choice.items()})
+
+    def place(self, r):
+        """Whether a production used has a rule followed by a token or by a rule whose sentence is not empty."""
+        for rule in self.used(r):
+            body = self.choice[rule]
+            before = next((k for k, s in enumerate(body) if s >= RULE), len(body))
+            if any(s < RULE or self.lengths[s - RULE] > 0 for s in body[before + 1 :]):
+                return True
+        return False
+
+    def steps(self, r, at=0):
+        """The symbols that min_sentence looks at: the rest of a production again after each rule in it, and for each
+        rule all of its productions."""
+        if (r, at) not in self.taken:
+            body = self.choice[r]
+            total = len(body) - at + 1 + (0 if at else sum(len(other) for other in self.bodies[r]))
+            for k in range(at, len(body)):
+                if body[k] >= RULE:
+                    total += self.steps(body[k] - RULE) + self.steps(r, k + 1)
+            self.taken[r, at] = total
+        return self.taken[r, at]
+
+    def again(self, r, at=0):
+        """What min_sentence writes, by taking the rest of a production again after each rule in it."""
+        if (r, at) not in self.written:
+            body = self.choice[r]
+            tokens = [s for s in body[at:] if s < RULE]
+            for k in reversed(range(at, len(body))):
+                if body[k] >= RULE:
+                    tokens += self.again(body[k] - RULE) + self.again(r, k + 1)
+            self.written[r, at] = tokens
+        return self.written[r, at]

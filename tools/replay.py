@@ -3,43 +3,43 @@
 
     tools/replay.py          writes crates/replay/stdin, the grammars, and crates/replay/stdout, the answers
 
-The sample is the well-formed examples and cases of tools/compare.py, and of each shape of tools/grammars.py the first
-so many from one seed whose lines take no more bytes than SIZES says; at_limits and most_rules are too long. A rule's line has what the Rust gave: EMPTY, FIRST, FOLLOW, the
-rules to which there is a path; its cost, if the costs came back; and its sentence, if that came back too and no
-production used has the place at which document 01 says that the Rust's differs (only this is asked of tools/plain.py,
-and no answer is taken from it). What did not come back stays empty, and `stdin` says of each rule which it is.
+The sample is the well-formed grammars of tools/named.py, and of each shape of tools/grammars.py the first so many from
+one seed whose lines take no more bytes than SIZES says; at_limits and most_rules are too long for it. A rule's line has
+what the Rust gave: EMPTY, FIRST, FOLLOW, the rules to which there is a path; its cost, if the costs came back; and its
+sentence, if that came back too and no production used has the place at which document 01 says that the Rust's differs
+(only this is worked out here, by tools/reading.py; no answer is). What did not come back stays empty, and `stdin` says
+of each rule which it is.
 """
-import json
 import random
-import subprocess
 import sys
 
 sys.dont_write_bytecode = True
 import compare
 import grammars
+import named
 import plain
+import reading
 
 FOLDER = compare.TOP / "crates" / "replay"
+HEADING = "rule,empty,first,follow,paths,cost,sentence\n"
 SEED = 1
 SIZES = {shape: (2000, 16) for shape in grammars.shapes if shape not in grammars.large} | {"one_limit": (20000, 2)}
-HEADING = "rule,empty,first,follow,paths,cost,sentence\n"
 
 
 def numbers(items):
     return " ".join(str(item) for item in items)
 
 
-def returned(outcome):
-    return outcome["returned"] if compare.kind_of(outcome) == "returned" else None
+def came_back(outcome):
+    return compare.kind_of(outcome) == "returned"
 
 
 def asked(g, rust):
     """What is asked of each rule: 1 for its cost, 2 for its sentence too."""
-    if returned(rust["costs"]) is None:
+    if not came_back(rust["costs"]):
         return [0] * g.rules
-    reading = compare.Reading(g)
-    sentences = [returned(outcome) is not None for outcome in rust["sentences"]]
-    return [1 + (sentences[r] and not reading.place(r)) for r in range(g.rules)]
+    read = reading.Reading(g)
+    return [1 + (came_back(outcome) and not read.place(r)) for r, outcome in enumerate(rust["sentences"])]
 
 
 def lines(asks, rust):
@@ -52,27 +52,28 @@ def lines(asks, rust):
         yield ",".join([str(r), str(rust["empty"][r]), *sets, str(cost), numbers(sentence)]) + "\n"
 
 
-def answers(sample):
-    """Each grammar as `stdin` has it, and its lines."""
-    text = "".join(grammars.line(g) + "\n" for g in sample)
-    done = subprocess.run(compare.ORACLE, input=text, stdout=subprocess.PIPE, text=True, check=True)
-    for g, answer in zip(sample, done.stdout.splitlines(), strict=True):
-        rust = json.loads(answer)
-        asks = asked(g, rust)
-        yield f"{grammars.line(g)} {numbers(asks)}\n", "".join(lines(asks, rust))
+def stored(g, rust):
+    """The grammar as `stdin` has it, and its lines."""
+    asks = asked(g, rust)
+    return f"{grammars.line(g)} {numbers(asks)}\n", "".join(lines(asks, rust))
 
 
-def short(name, most, count):
+def short(ask, shape, most, count):
     """So many of a shape whose lines take at most so many bytes."""
-    draw = random.Random(f"{SEED} {name}")
-    pairs = answers([grammars.shapes[name](draw) for _ in range(2 * count)])
-    return [pair for pair in pairs if len(pair[0]) + len(pair[1]) <= most][:count]
+    draw, kept = random.Random(f"{SEED} {shape}"), []
+    while len(kept) < count:
+        g = grammars.shapes[shape](draw)
+        pair = stored(g, ask(g)) if len(grammars.line(g)) < most else ("", "")
+        if 0 < len(pair[0]) + len(pair[1]) <= most:
+            kept.append(pair)
+    return kept
 
 
 def main():
-    pairs = list(answers([g for _, g in compare.named() if plain.refusal(g) == 0]))
-    for name, (most, count) in SIZES.items():
-        pairs += short(name, most, count)
+    ask = compare.Asked([*compare.ORACLE, str(compare.AGAIN)])
+    pairs = [stored(g, ask(g)) for _, g in named.named() if plain.refusal(g) == 0]
+    for shape, (most, count) in SIZES.items():
+        pairs += short(ask, shape, most, count)
     (FOLDER / "stdin").write_text(f"{len(pairs)}\n" + "".join(given for given, _ in pairs))
     (FOLDER / "stdout").write_text(HEADING + "".join(answer for _, answer in pairs))
     print(f"{len(pairs)} grammars")

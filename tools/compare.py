@@ -9,7 +9,8 @@ random ones of each shape.
 FIRST, EMPTY, mode 1 FOLLOW and all paths must be equal; so must the costs where the Rust returns, and a sentence where
 it returns and no production used has a rule followed by a token or by a rule whose sentence is not empty. At such a
 place the Rust's sentence must be the one that taking the rest again gives. Where the Rust does not return, or panics,
-the grammar must have what the named difference says, worked out from the grammar alone. What we answer there must be
+the grammar must have what the named difference says, worked out from the grammar alone; if it runs out of time without
+such a reason, it is asked again with more time, which is counted. What we answer there must be
 what document 01 says. Each kind is counted, and each kind of difference shown with the smallest grammar that has it;
 the program exits with 1 if one is not explained.
 """
@@ -35,6 +36,7 @@ WORKERS = 2
 LARGE_EVERY = 2000  # so many random grammars from a large one to the next, which takes seconds
 UNEXPLAINED = "UNEXPLAINED "
 STOPPED = ("out of time", "out of memory")
+AGAIN = 20  # times the time for a grammar on which the Rust ran out of it without a reason
 STEPS = 100_000  # so many steps of min_sentence fit well into the oracle's time
 
 
@@ -57,7 +59,7 @@ class Asked:
         self.program.stdin.flush()
         answer = self.program.stdout.readline()
         if not answer:
-            raise SystemExit(f"compare: {self.words[-1]} ended at {grammars.shown(g)}")
+            raise SystemExit(f"compare: {self.words} ended at {grammars.shown(g)}")
         return json.loads(answer)
 
 
@@ -118,9 +120,9 @@ class Comparison:
 class Comparer(Comparison):
     """Compares the answers on one grammar after the other."""
 
-    def __init__(self, rust, ours):
+    def __init__(self, rust, patient, ours):
         super().__init__()
-        self.ask_rust, self.ask_ours = rust, ours
+        self.ask_rust, self.ask_patiently, self.ask_ours = rust, patient, ours
 
     def count(self, kind):
         self.kinds[kind] += 1
@@ -145,14 +147,26 @@ class Comparer(Comparison):
         if "refused" in self.ours:
             self.same("a grammar refused", plain.refusal(g), self.ours["refused"])
         else:
-            self.tables()
             self.reading = Reading(g)
+            if self.hurried():
+                self.count(f"asked again, with {AGAIN} times the time")
+                self.rust = self.ask_patiently(g)
+            self.tables()
             self.costs()
             for r in range(g.rules):
                 self.sentence(r)
         for said in SAID:
             if said[0] == name:
                 self.said(*said[1:])
+
+    def hurried(self):
+        """Whether the Rust ran out of time without a reason: on a busy machine its time may have been too short. What
+        it does with more time is what counts."""
+        if self.reading.endless is not None:
+            return False
+        late = [r for r, outcome in enumerate(self.rust["sentences"]) if outcome in STOPPED]
+        short = [r for r in late if r not in self.reading.choice or self.reading.steps(r) <= STEPS]
+        return self.rust["costs"] in STOPPED or bool(short)
 
     def said(self, rust_part, rust, ours_part, ours):
         seen = part(self.rust, rust_part), part(self.ours, ours_part)
@@ -259,7 +273,7 @@ def drawn(shape, *numbers):
 
 
 def comparer(words):
-    return Comparer(Asked(ORACLE), Asked(words) if words else plain_answer)
+    return Comparer(Asked(ORACLE), Asked([*ORACLE, str(AGAIN)]), Asked(words) if words else plain_answer)
 
 
 def work(words, seed, deadline, worker):

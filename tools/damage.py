@@ -46,7 +46,7 @@ TELLING |= {name: ["own_rule", "empty_chains", "right_recursion"] for name in VI
 
 def edited(draw, items, most):
     """A list one shorter or longer, without entries, or with another entry somewhere."""
-    entry = draw.choice((0, 1, len(items), most, draw.randint(0, most)))
+    entry = draw.choice((0, 1, min(len(items), most), most, draw.randint(0, most)))
     return draw.choice((items[:-1], items[1:], items + [entry], [], grammars.replaced(draw, items, entry)))
 
 

@@ -1,5 +1,5 @@
-"""What document 01 says of the costs and sentences of a grammar, and what the loops of the Rust make of them: where they
-do not return, where they panic, and what they write. All is worked out from the grammar alone."""
+"""What document 01 says of the costs and sentences of a grammar, and what the loops of the Rust make of them: where
+they do not return, where they panic, and what they write. All is worked out from the grammar alone."""
 import collections
 import functools
 

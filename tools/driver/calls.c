@@ -102,11 +102,13 @@ static size_t width(char kind) { return kind == 'b' ? 1 : kind == 'h' ? 2 : 4; }
 
 static size_t bytes(const struct list *list) { return list->len * width(list->kind); }
 
-/* Puts a list's elements where it stands. */
+static int fits(uint32_t value, char kind) { return kind == 'w' || value >> 8 * width(kind) == 0; }
+
+/* Puts a list's elements where it stands; 0 if one does not fit. */
 static int read_elements(const struct list *list) {
     for (size_t k = 0; k < list->len; k++) {
         uint32_t element;
-        if (!word(&element)) return 0;
+        if (!word(&element) || !fits(element, list->kind)) return 0;
         memcpy(list->at + k * width(list->kind), &element, width(list->kind));
     }
     return 1;
@@ -132,7 +134,7 @@ static int read_call(struct call *c, const char *kinds) {
         uint32_t number;
         if (*kinds != 'n') {
             if (!read_list(c, *kinds)) return 0;
-        } else if (!word(&number)) {
+        } else if (!word(&number) || !fits(number, 'h')) {
             return 0;
         } else {
             c->number[c->numbers++] = (uint16_t)number;
@@ -176,7 +178,7 @@ int main(void) {
     while (word(&number)) {
         struct call c = {0};
         if (number >= sizeof calls / sizeof *calls) return fail("no such call");
-        if (!read_call(&c, calls[number].kinds)) return fail("a call is cut short or too long");
+        if (!read_call(&c, calls[number].kinds)) return fail("a call is cut short, too long, or has a number that does not fit");
         calls[number].make(&c);
         if (!kept(&c)) return fail("a call wrote outside its lists");
         fwrite(c.answer, sizeof *c.answer, c.answers, stdout);

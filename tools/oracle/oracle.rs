@@ -11,7 +11,7 @@
 //! with an entry for each rule, and an outcome of {"returned": [number..]}, {"panicked": "message"}, "out of time" or
 //! "out of memory". Beyond the numbers are production P, the path from rule R to 0 and that from 0 to R. Costs and
 //! sentences are asked in child processes. A child answers one question after the other until one of them runs out of
-//! the limits below; the next child goes on behind it.
+//! the limits below; the next child goes on behind it. `oracle TIMES` gives so many times the time.
 mod text;
 
 use std::fmt::{Debug, Display};
@@ -119,7 +119,7 @@ fn held(len: usize, holds: impl Fn(u16) -> bool) -> String {
     listed((0..len as u16).filter(|&i| holds(i)))
 }
 
-fn answer(flat: &Flat) -> String {
+fn answer(flat: &Flat, times: u32) -> String {
     let (grm, tokens) = (build(flat), flat.costs.len());
     let (firsts, follows) = (grm.firsts(), grm.follows());
     let rules = || (0..flat.rules).map(RIdx);
@@ -127,7 +127,7 @@ fn answer(flat: &Flat) -> String {
     let empty = listed(rules().map(|r| firsts.is_epsilon_set(r) as u8));
     let follow = listed(rules().map(|r| held(tokens, |t| follows.is_set(r, TIdx(t)))));
     let path = listed(rules().map(|a| listed(rules().map(|b| grm.has_path(a, b) as u8))));
-    let mut outcomes = outcomes(&grm, flat);
+    let mut outcomes = outcomes(&grm, flat, times);
     let costs = outcomes.remove(0);
     let entries = [
         ("first", first),
@@ -160,12 +160,12 @@ fn caught(question: impl FnOnce() -> Vec<u16>) -> String {
 }
 
 /// The outcomes of the costs and of each rule's sentence.
-fn outcomes(grm: &YaccGrammar<u16>, flat: &Flat) -> Vec<String> {
+fn outcomes(grm: &YaccGrammar<u16>, flat: &Flat, times: u32) -> Vec<String> {
     let most = LONGEST.min(QUESTION + SYMBOL * flat.symbols.len() as u32);
     let mut found: Vec<String> = Vec::new();
     while found.len() <= flat.rules.into() {
         let time = if found.first().is_some_and(|costs| costs == OUT_OF_TIME) { SENTENCE } else { most };
-        let (lines, ended) = Child::start(|| answer_from(found.len(), grm, flat)).finish(time);
+        let (lines, ended) = Child::start(|| answer_from(found.len(), grm, flat)).finish(time * times);
         found.extend(lines);
         found.extend(ended.map(String::from));
     }
@@ -293,9 +293,10 @@ impl Child {
 
 fn main() {
     std::panic::set_hook(Box::new(|_| ()));
+    let times = std::env::args().nth(1).map_or(1, |word| word.parse().unwrap_or_else(|error| fail(error)));
     for line in io::stdin().lock().lines() {
         let line = line.unwrap_or_else(|error| fail(error));
         let flat = Flat::read(&line).unwrap_or_else(|| fail("a line is no grammar"));
-        println!("{}", answer(&flat));
+        println!("{}", answer(&flat, times));
     }
 }

@@ -178,7 +178,7 @@ int main(void) {
     while (word(&number)) {
         struct call c = {0};
         if (number >= sizeof calls / sizeof *calls) return fail("no such call");
-        if (!read_call(&c, calls[number].kinds)) return fail("a call is cut short, too long, or has a number that does not fit");
+        if (!read_call(&c, calls[number].kinds)) return fail("a call is cut short, or does not fit");
         calls[number].make(&c);
         if (!kept(&c)) return fail("a call wrote outside its lists");
         fwrite(c.answer, sizeof *c.answer, c.answers, stdout);

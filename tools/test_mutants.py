@@ -80,7 +80,7 @@ class Sources(unittest.TestCase):
     def test_calls_are_followed_within_the_crate(self):
         found = source.functions(TOP / "crates" / "grammar")
         self.assertEqual(source.reaches("grammar::inner::prod_at", found, CRATES),
-                         {"grammar::inner::start_at", "grammar::inner::wide"})
+                         {"grammar::inner::prod_at", "grammar::inner::start_at", "grammar::inner::wide"})
 
     def test_a_name_of_another_crate_is_not_taken_for_an_own_one(self):
         found = source.functions(TOP / "crates" / "firsts")
@@ -94,7 +94,7 @@ class Sources(unittest.TestCase):
             self.assertRaises(ValueError, source.edited, found, [wrong])
 
     def test_functions_that_call_each_other_are_tried_apart_where_the_caller_has_no_proof_file(self):
-        for group in run.groups_of("grammar")[1]:
+        for group in run.Crate("grammar").groups:
             names = {e.function for e in group}
             self.assertEqual(len(names), len(group))
             self.assertLessEqual(len(names & {"grammar::inner::start_at", "grammar::inner::wide"}), 1)
@@ -121,8 +121,16 @@ class Verdicts(unittest.TestCase):
     def test_disturbed(self):
         said, refused = dict(run.SAID.findall(PRINTED)), run.needs_refused("rows", PRINTED)
         edits = [edit("set"), edit("number"), edit("clear")]
-        self.assertEqual(run.disturbed(edits, said, refused), ["rows::inner::join"])
-        self.assertEqual(run.disturbed(edits + [edit("join")], said, refused), [])
+        self.assertEqual(run.disturbed(edits, said, refused, {}), ["rows::inner::join"])
+        self.assertEqual(run.disturbed(edits + [edit("join")], said, refused, {}), [])
+
+    def test_functions_of_a_cycle_share_a_proof(self):
+        crate = run.Crate("sentences")
+        both = {f"sentences::inner::expansion::{name}" for name in ("expand_production", "expand_rule")}
+        self.assertEqual(crate.proofs["sentences::inner::expansion::expand_rule"], both)
+        edits = [e for e in crate.groups[0] if e.function in both]
+        refused = {name: {"returns": "why"} for name in both}
+        self.assertEqual(run.disturbed(edits, {}, refused, crate.proofs), [])
 
 
 if __name__ == "__main__":

@@ -70,14 +70,14 @@ def calls(function, crates):
 
 
 def reaches(name, found, crates):
-    """The functions of `found` that `name` calls, or that these call in turn; not `name` itself."""
+    """`name` and the functions of `found` that it calls, or that these call in turn."""
     seen, todo = {name}, [name]
     while todo:
         for called in calls(found[todo.pop()], crates):
             if called in found and called not in seen:
                 seen.add(called)
                 todo.append(called)
-    return seen - {name}
+    return seen
 
 
 def read_edits(path, crate):

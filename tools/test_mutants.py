@@ -17,7 +17,8 @@ LIBRARIES = [path.parent.parent for path in sorted((TOP / "crates").glob("*/src/
 CRATES = {path.name for path in (TOP / "crates").iterdir()}
 
 # What the prover prints, cut: `set` fails by itself, `join` by itself and for what it calls, `join_from` for what it
-# calls, `number` and `start_at` have no proof file, and `clear` has other needs than its proof answers.
+# calls, `number` and `start_at` have no proof file, and `clear`, `loops` and `gone` have other needs than their proofs
+# answer.
 PRINTED = """/x/crates/rows/proofs/inner/set/Proof.antt:38:14: error: `returns`: as printed, the two types first differ
   computed as far as they go, the two types differ only where one has `32` (expected) and the other has `31` (found)
 /x/crates/rows/proofs/inner/set/Proof.antt:46:5: error: `set-spec`: `returns` was not admitted (it has holes)
@@ -27,11 +28,15 @@ PRINTED = """/x/crates/rows/proofs/inner/set/Proof.antt:38:14: error: `returns`:
 /x/crates/rows/proofs/inner/join/Proof.antt:41:5: error: `join-spec`: `close` was not admitted (it has holes)
 /x/crates/rows/proofs/inner/join_from/Proof.antt:41:5: error: `join-from-spec`: `close` was not admitted (it has holes)
 /x/crates/rows/proofs/inner/clear/Proof.antt:46:5: error: `clear-spec`: expected type `tie.Need-sub-word`, but this
+/x/crates/rows/proofs/inner/loops/Proof.antt:9:5: error: `Inv-loop`: expected type `a`, but this has type `b`
+/x/crates/rows/proofs/inner/gone/Proof.antt:9:5: error: `mul-at`: `tie.Need-mul-at`: module `x.Tie` has no `Need-mul-at`
 fn rows::inner::is_set: proved
 fn rows::inner::set: not proved
 fn rows::inner::join: not proved; it calls `rows::inner::set`, which is not proved
 fn rows::inner::join_from: not proved; it calls `rows::inner::set`, which is not proved
 fn rows::inner::clear: not proved
+fn rows::inner::loops: not proved
+fn rows::inner::gone: not proved
 fn rows::inner::number: no proof: expected `number-spec` in /x/Proof.antt; `search` does not close `returns-2`
 fn rows::inner::start_at: no proof: expected `start-at-spec` in /x/Proof.antt; it calls `rows::inner::set`, which is ..
 logic=not-proved
@@ -116,11 +121,12 @@ class Verdicts(unittest.TestCase):
         self.assertEqual(verdict("number"), ("refused", "`returns-2`: search finds no proof"))
 
     def test_other_needs_are_no_refusal(self):
-        self.assertEqual(verdict("clear")[0], "BAD EDIT")
+        for name in ("clear", "loops", "gone"):
+            self.assertEqual(verdict(name)[0], "BAD EDIT", name)
 
     def test_disturbed(self):
         said, refused = dict(run.SAID.findall(PRINTED)), run.needs_refused("rows", PRINTED)
-        edits = [edit("set"), edit("number"), edit("clear")]
+        edits = [edit(name) for name in ("set", "number", "clear", "loops", "gone")]
         self.assertEqual(run.disturbed(edits, said, refused, {}), ["rows::inner::join"])
         self.assertEqual(run.disturbed(edits + [edit("join")], said, refused, {}), [])
 

@@ -15,7 +15,7 @@ pub fn built(rules: u16, prods: &[(u16, &[u16])], costs: &[u8]) -> Result<Gramma
     Grammar::new(rules, prods.iter().map(|(owner, _)| *owner).collect(), starts, symbols, costs.to_vec())
 }
 
-fn well(rules: u16, prods: &[(u16, &[u16])], costs: &[u8]) -> Grammar {
+pub fn well(rules: u16, prods: &[(u16, &[u16])], costs: &[u8]) -> Grammar {
     built(rules, prods, costs).expect("a well-formed grammar")
 }
 

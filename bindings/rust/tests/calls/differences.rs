@@ -1,0 +1,71 @@
+//! Inputs of docs/DIFFERENCES.md besides document 01's grammars: what is answered where the Rust loses marks, writes
+//! tokens again, panics or never returns. In each the start is rule 1.
+use boltmarrow::{Mode, RIdx, Refusal, TIdx};
+
+use crate::grammars::{built, well, RULE};
+use crate::sentences::{cost, sentence};
+
+const A: u16 = RULE + 1;
+const B: u16 = RULE + 2;
+
+#[test]
+fn follow_past_a_rule_that_vanishes() {
+    // A: A B c; B: nothing
+    let grm = well(3, &[(0, &[A]), (1, &[A, B, 0]), (2, &[])], &[1, 1]);
+    let c_after_a = |mode| grm.follows(mode).is_set(RIdx(1), TIdx(0));
+    assert_eq!((c_after_a(Mode::Crate), c_after_a(Mode::Corrected)), (Ok(false), Ok(true)));
+}
+
+#[test]
+fn each_token_once_and_in_order() {
+    // A: B a; B: nothing
+    let grm = well(3, &[(0, &[A]), (1, &[B, 0]), (2, &[])], &[1, 1]);
+    assert_eq!(sentence(&grm, 1), Ok(vec![0]));
+    // A: B a; B: b
+    let grm = well(3, &[(0, &[A]), (1, &[B, 0]), (2, &[1])], &[1, 1, 1]);
+    assert_eq!(sentence(&grm, 0), Ok(vec![1, 0]));
+}
+
+#[test]
+fn loops_that_add_no_cost() {
+    // A: A; A: nothing
+    let grm = well(2, &[(0, &[A]), (1, &[A]), (1, &[])], &[1]);
+    assert_eq!((cost(&grm, 1), sentence(&grm, 1)), (Ok(0), Err(Refusal::Circular)));
+    // A: A f; A: a, and f is free
+    let grm = well(2, &[(0, &[A]), (1, &[A, 0]), (1, &[1])], &[0, 1, 1]);
+    assert_eq!((cost(&grm, 1), sentence(&grm, 1)), (Ok(1), Err(Refusal::Circular)));
+    // A: A A; A: a
+    let grm = well(2, &[(0, &[A]), (1, &[A, A]), (1, &[0])], &[1, 1]);
+    assert_eq!((cost(&grm, 1), sentence(&grm, 1)), (Ok(1), Ok(vec![0])));
+}
+
+#[test]
+fn a_rule_without_a_sentence_is_refused_alone() {
+    // A: A
+    let grm = well(2, &[(0, &[A]), (1, &[A])], &[1]);
+    assert_eq!(cost(&grm, 1), Err(Refusal::NoSentence));
+    // A: a; B: B
+    let grm = well(3, &[(0, &[A]), (1, &[0]), (2, &[B])], &[1, 1]);
+    assert_eq!([cost(&grm, 0), cost(&grm, 1), cost(&grm, 2)], [Ok(1), Ok(1), Err(Refusal::NoSentence)]);
+}
+
+#[test]
+fn a_dear_production_is_passed_over() {
+    // A: nothing; A: B B a; B: 129 tokens of cost 255
+    let grm = well(3, &[(0, &[A]), (1, &[]), (1, &[B, B, 0]), (2, &[1; 129])], &[1, 255, 1]);
+    assert_eq!((cost(&grm, 2), sentence(&grm, 1)), (Ok(32895), Ok(vec![])));
+}
+
+#[test]
+fn rules_with_empty_sentences_take_no_time() {
+    // A: B 40 times; B: nothing
+    let grm = well(3, &[(0, &[A]), (1, &[B; 40]), (2, &[])], &[1]);
+    assert_eq!((cost(&grm, 1), sentence(&grm, 1)), (Ok(0), Ok(vec![])));
+}
+
+#[test]
+fn rules_over_the_limit() {
+    let mut prods: Vec<(u16, &[u16])> = vec![(0, &[A])];
+    prods.extend((1..513).map(|r| (r, &[0_u16][..])));
+    assert_eq!(built(513, &prods, &[1, 1]).err(), Some(Refusal::Sizes));
+}

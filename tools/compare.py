@@ -162,11 +162,11 @@ class Comparer(Comparison):
     def hurried(self):
         """Whether the Rust ran out of time without a reason: on a busy machine its time may have been too short. What
         it does with more time is what counts."""
-        if self.reading.endless is not None:
-            return False
+        read = self.reading
         late = [r for r, outcome in enumerate(self.rust["sentences"]) if outcome in STOPPED]
-        short = [r for r in late if r not in self.reading.choice or self.reading.steps(r) <= STEPS]
-        return self.rust["costs"] in STOPPED or bool(short)
+        if read.endless is not None:
+            return any(not read.asks(r) for r in late)
+        return self.rust["costs"] in STOPPED or any(r not in read.choice or read.steps(r) <= STEPS for r in late)
 
     def said(self, rust_part, rust, ours_part, ours):
         seen = part(self.rust, rust_part), part(self.ours, ours_part)

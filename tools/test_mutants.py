@@ -19,17 +19,17 @@ CRATES = {path.name for path in (TOP / "crates").iterdir()}
 # What the prover prints, cut: `set` fails by itself, `join` by itself and for what it calls, `join_from` for what it
 # calls, `number` and `start_at` have no proof file, and `clear`, `loops` and `gone` have other needs than their proofs
 # answer.
-PRINTED = """/x/crates/rows/proofs/inner/set/Proof.antt:38:14: error: `returns`: as printed, the two types first differ
+PRINTED = """crates/rows/proofs/inner/set/Proof.antt:38:14: error: `returns`: as printed, the two types first differ
   computed as far as they go, the two types differ only where one has `32` (expected) and the other has `31` (found)
-/x/crates/rows/proofs/inner/set/Proof.antt:46:5: error: `set-spec`: `returns` was not admitted (it has holes)
-/x/crates/rows/proofs/inner/join/Proof.antt:31:16: error: `loop-again`: `search`: no proof of `Inv-loop ..`
+crates/rows/proofs/inner/set/Proof.antt:46:5: error: `set-spec`: `returns` was not admitted (it has holes)
+crates/rows/proofs/inner/join/Proof.antt:31:16: error: `loop-again`: `search`: no proof of `Inv-loop ..`
   was found. Not every way was tried.
-/x/crates/rows/proofs/inner/join/Proof.antt:37:13: error: `returns`: expected type `a`, but this has type `b`
-/x/crates/rows/proofs/inner/join/Proof.antt:41:5: error: `join-spec`: `close` was not admitted (it has holes)
-/x/crates/rows/proofs/inner/join_from/Proof.antt:41:5: error: `join-from-spec`: `close` was not admitted (it has holes)
-/x/crates/rows/proofs/inner/clear/Proof.antt:46:5: error: `clear-spec`: expected type `tie.Need-sub-word`, but this
-/x/crates/rows/proofs/inner/loops/Proof.antt:9:5: error: `Inv-loop`: expected type `a`, but this has type `b`
-/x/crates/rows/proofs/inner/gone/Proof.antt:9:5: error: `mul-at`: `tie.Need-mul-at`: module `x.Tie` has no `Need-mul-at`
+crates/rows/proofs/inner/join/Proof.antt:37:13: error: `returns`: expected type `a`, but this has type `b`
+crates/rows/proofs/inner/join/Proof.antt:41:5: error: `join-spec`: `close` was not admitted (it has holes)
+crates/rows/proofs/inner/join_from/Proof.antt:41:5: error: `join-from-spec`: `close` was not admitted (it has holes)
+crates/rows/proofs/inner/clear/Proof.antt:46:5: error: `clear-spec`: expected type `tie.Need-sub-word`, but this
+crates/rows/proofs/inner/loops/Proof.antt:9:5: error: `Inv-loop`: expected type `a`, but this has type `b`
+crates/rows/proofs/inner/gone/Proof.antt:9:5: error: `mul-at`: `tie.Need-mul-at`: module `x.Tie` has no `Need-mul-at`
 fn rows::inner::is_set: proved
 fn rows::inner::set: not proved
 fn rows::inner::join: not proved; it calls `rows::inner::set`, which is not proved
@@ -37,8 +37,8 @@ fn rows::inner::join_from: not proved; it calls `rows::inner::set`, which is not
 fn rows::inner::clear: not proved
 fn rows::inner::loops: not proved
 fn rows::inner::gone: not proved
-fn rows::inner::number: no proof: expected `number-spec` in /x/Proof.antt; `search` does not close `returns-2`
-fn rows::inner::start_at: no proof: expected `start-at-spec` in /x/Proof.antt; it calls `rows::inner::set`, which is ..
+fn rows::inner::number: no proof: expected `number-spec` in Proof.antt; `search` does not close `returns-2`
+fn rows::inner::start_at: no proof: expected `start-at-spec` in Proof.antt; it calls `rows::inner::set`, which is ..
 logic=not-proved
 """
 

@@ -8,7 +8,8 @@ ghost use lib.ListN.{length, getD};
 ghost use Rattle.grammar.specs.Flat.{flat, at};
 ghost use Rattle.grammar.specs.Refusals.{falls, startsWrong, ownerOut, owns, ruleUnowned, symbolOut, symbolsOut, startCount, oneRule, startLong, startHeld, startWrong};
 ghost use Rattle.grammar.specs.Well.{Laid};
-ghost use Rattle.grammar.specs.Production.{checkedIs, lengthIs, checkOf, productionOf, orEmpty, lengthOf};
+ghost use Rattle.grammar.specs.Production.{checkedIs, lengthIs, checkOf, productionOf, orEmpty, placeOf, orStart, further, lengthOf};
+ghost use denote.Ref.{ptr};
 use crate::inner::sizes_out;
 use crate::inner::start_at;
 use crate::inner::wide;
@@ -233,7 +234,8 @@ pub fn production<'a>(
     costs: &[u8],
     prod: PIdx,
 ) -> &'a [u16]
-    ensures { λ r. ⌜ now r ≡ orEmpty (productionOf (flat rules (now (owners .entry)) (now (starts .entry)) (now (symbols .entry)) (now (costs .entry))) (prod .0)) ⌝ }
+    ensures place { λ r. ⌜ ptr r ≡ further (ptr (symbols .entry)) (orStart (placeOf (flat rules (now (owners .entry)) (now (starts .entry)) (now (symbols .entry)) (now (costs .entry))) (prod .0))) ⌝ }
+    ensures holds { λ r. ⌜ now r ≡ orEmpty (productionOf (flat rules (now (owners .entry)) (now (starts .entry)) (now (symbols .entry)) (now (costs .entry))) (prod .0)) ⌝ }
 {
     let Checked::Well = check(rules, owners, starts, symbols, costs) else {
         return &symbols[..0];

@@ -3,7 +3,6 @@ use mathlib.Core.List.{List}
 use Prim.Native.Nat.{ℕ, _≤_}
 use lib.ListN.{length}
 use Rattle.theory.specs.Visits.{Costs}
-use Rattle.source.specs.Costs.{start, Returns as CostsReturn}
 use Rattle.source.specs.Sentence.{Returns, NoPlace}
 use Rattle.source.proofs.Sentence.{sentence-same}
 use Rattle.grammar.specs.Flat.{Flat, denoted, price}
@@ -13,8 +12,8 @@ use Rattle.grammar.proofs.Denoted.{proper}
 use Rattle.costs.specs.Lent.{costsOf}
 use Rattle.sentences.specs.Query.{Lends, Writes, Sentenced}
 
--- b is what the source's `rule_min_costs` returns, v what its `min_sentence` returns
+-- b is the source's list of costs, if it asks for one; v is what its `min_sentence` returns
 pub source-equal : (g : Flat) → WellFormed g → (r : ℕ) (out : List ℕ) {s : Outcome ℕ} {a : Lends} → Sentenced g r out s a
-    → {b : Costs} → CostsReturn (denoted g) (price g) start b → (v : List ℕ) → Returns (denoted g) (price g) b r v → NoPlace (denoted g) (price g) (costsOf (a .cost)) r
+    → (b : Costs) (v : List ℕ) → Returns (denoted g) (price g) b r v → NoPlace (denoted g) (price g) (costsOf (a .cost)) r
     → length v ≤ 65535 → length v ≤ length out → Writes v out s (a .out)
-source-equal g w r out x cs v y h short room = x .says .is v (sentence-same (denoted g) (price g) (proper g w) (x .cost .exact) cs y h) short room
+source-equal g w r out {a = a} x b v y h short room = x .says .is v (sentence-same (denoted g) (price g) (proper g w) b (costsOf (a .cost)) (x .cost .exact) y h) short room

@@ -8,7 +8,7 @@ ghost use lib.ListN.{length, getD};
 ghost use Rattle.grammar.specs.Flat.{flat, at};
 ghost use Rattle.grammar.specs.Refusals.{falls, startsWrong, ownerOut, owns, ruleUnowned, symbolOut, symbolsOut, startCount, oneRule, startLong, startHeld, startWrong};
 ghost use Rattle.grammar.specs.Well.{Laid};
-ghost use Rattle.grammar.specs.Production.{checkedIs, lengthIs, checkOf, productionOf, orEmpty, placeOf, orStart, further, lengthOf};
+ghost use Rattle.grammar.specs.Production.{checkedIs, lengthIs, checkOf, productionOf, lengthOf, Produces};
 ghost use denote.Ref.{ptr};
 use crate::inner::sizes_out;
 use crate::inner::start_at;
@@ -234,8 +234,7 @@ pub fn production<'a>(
     costs: &[u8],
     prod: PIdx,
 ) -> &'a [u16]
-    ensures place { λ r. ⌜ ptr r ≡ further (ptr (symbols .entry)) (orStart (placeOf (flat rules (now (owners .entry)) (now (starts .entry)) (now (symbols .entry)) (now (costs .entry))) (prod .0))) ⌝ }
-    ensures holds { λ r. ⌜ now r ≡ orEmpty (productionOf (flat rules (now (owners .entry)) (now (starts .entry)) (now (symbols .entry)) (now (costs .entry))) (prod .0)) ⌝ }
+    ensures { λ r. ⌜ Produces (flat rules (now (owners .entry)) (now (starts .entry)) (now (symbols .entry)) (now (costs .entry))) (prod .0) (ptr (symbols .entry)) (ptr r) (now r) ⌝ }
 {
     let Checked::Well = check(rules, owners, starts, symbols, costs) else {
         return &symbols[..0];

@@ -3,8 +3,9 @@
 //
 //     R T P N, P owners, P+1 starts, N symbols, T token costs, R numbers: what is asked of each rule
 //
-// where 1 asks for the rule's cost too, and 2 for its cost and its sentence. What is printed of them is held to the
-// answers that the Rust gave, in the file `stdout`; tools/replay.py made both files, and says how.
+// where 1 asks for the rule's cost too, 2 for its cost and its sentence, and 3 for its sentence alone, which the Rust
+// may give where its costs never return. What is printed of them is held to the answers that the Rust gave, in the file
+// `stdout`; tools/replay.py made both files, and says how.
 use grammar::RIdx;
 use grammar::TIdx;
 use tables::Asked;
@@ -180,7 +181,7 @@ fn say_cost(
     productive: &mut [u32],
     cost: &mut [u32],
 ) {
-    if asked < 1 {
+    if (asked < 1) | (2 < asked) {
         return;
     }
     match costs::min_sentence_cost(

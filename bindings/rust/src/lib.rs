@@ -23,6 +23,7 @@
 //! # Ok::<(), boltmarrow::Refusal>(())
 //! ```
 #![deny(missing_docs, unsafe_code)]
+#![warn(clippy::missing_errors_doc)]
 
 mod costs;
 mod firsts;

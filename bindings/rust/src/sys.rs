@@ -1,6 +1,7 @@
 //! The exported calls of bindings/include/boltmarrow.h, as safe functions on slices. What the header asks of a caller
 //! holds for every slice: its pointer is neither null nor unaligned, also for length 0, it has as many elements as its
-//! length says, and one that is written overlaps no other.
+//! length says, and one that is written overlaps no other. The numbers that have types of their own in the header are
+//! `u16` here, which are passed the same way; the crate's own functions take `RIdx`, `PIdx` and `TIdx`.
 //!
 //! Three calls are for tests alone, since the crate reads a production or a mark itself: src/tests.rs holds what it reads
 //! to what they answer.

@@ -7,6 +7,7 @@
 //! numbers, to ask about the flattened grammar; [`rule_of`], [`token_of`] and [`prod_of`] give them back, to ask the
 //! `YaccGrammar` about an answer, such as its names for the tokens of a sentence.
 #![deny(missing_docs, unsafe_code)]
+#![warn(clippy::missing_errors_doc)]
 
 use boltmarrow::{Grammar, Refusal};
 use cfgrammar::yacc::YaccGrammar;

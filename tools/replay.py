@@ -3,6 +3,7 @@
 
     tools/replay.py          writes crates/replay/stdin, the grammars, and crates/replay/stdout, the answers
 
+The Rust's productions are the grammar's, which the oracle has seen to: a line for each, and then one for each rule.
 The sample is the well-formed grammars of tools/named.py, and of each shape of tools/grammars.py the first so many from
 one seed whose lines take no more bytes than SIZES says; at_limits and most_rules are too long for it. A rule's line has
 what the Rust gave: EMPTY, FIRST, FOLLOW, the rules to which there is a path; its cost, if the costs came back; and its
@@ -55,7 +56,8 @@ def lines(asks, rust):
 def stored(g, rust):
     """The grammar as `stdin` has it, and its lines."""
     asks = asked(g, rust)
-    return f"{grammars.line(g)} {numbers(asks)}\n", "".join(lines(asks, rust))
+    prods = "".join(f"prod {p},{numbers(body)}\n" for p, (_, body) in enumerate(g.productions()))
+    return f"{grammars.line(g)} {numbers(asks)}\n", prods + "".join(lines(asks, rust))
 
 
 def short(ask, shape, most, count):

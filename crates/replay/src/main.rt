@@ -6,6 +6,7 @@
 // where 1 asks for the rule's cost too, 2 for its cost and its sentence, and 3 for its sentence alone, which the Rust
 // may give where its costs never return. What is printed of them is held to the answers that the Rust gave, in the file
 // `stdout`; tools/replay.py made both files, and says how.
+use grammar::PIdx;
 use grammar::RIdx;
 use grammar::TIdx;
 use tables::Asked;
@@ -356,6 +357,24 @@ fn say_rules(
     }
 }
 
+// A production's line: its number and its symbols, as the stretch of the list that `production` lends.
+fn say_prod(rules: u16, owners: &[u16], starts: &[u16], symbols: &[u16], costs: &[u8], prod: u16) {
+    say(b"prod ");
+    print(prod);
+    say(b",");
+    say_tokens(grammar::production(rules, owners, starts, symbols, costs, PIdx(prod)));
+    say(b"\n");
+}
+
+// A line for each production.
+fn say_prods(rules: u16, owners: &[u16], starts: &[u16], symbols: &[u16], costs: &[u8]) {
+    let mut i: usize = 0;
+    while i < owners.len() {
+        say_prod(rules, owners, starts, symbols, costs, narrow(i));
+        i += 1;
+    }
+}
+
 // Fills the tables, FOLLOW in the crate's mode, and prints a line for each rule.
 fn fill_and_say(
     rules: u16,
@@ -420,8 +439,10 @@ fn replay(owners: &[u16], starts: &[u16], symbols: &[u16], costs: &[u8], asked: 
     let mut productive = [0; 16];
     let mut cost = [0; 512];
     let mut lengths = [0; 512];
+    let r = narrow(n);
+    say_prods(r, owners, starts, symbols, costs);
     fill_and_say(
-        narrow(n),
+        r,
         owners,
         starts,
         symbols,

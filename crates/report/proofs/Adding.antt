@@ -63,6 +63,14 @@ module _ (bytes buffer to : List ℕ) (w : Written) (x : Writes bytes buffer (wr
   wrote-made : (out out′ : List ℕ) (at next : ℕ) → Appended out at (lineIn w to) out′ next → Appended out at bytes out′ next
   wrote-made out out′ at next y = subst (λ b. Appended out at b out′ next) (line-is bytes buffer to w x) y
 
+-- bytes that are appended from place 0 on stand at the front
+module _ (bytes out to : List ℕ) (n : ℕ) (x : Appended out 0 bytes to n) (l : length bytes ≤ length out) where
+  front-within : n ≤ length to
+  front-within = omega (arith, x .next, appended-long x)
+
+  front-is : take n to ≡ bytes
+  front-is = let y = writes bytes out to n n l x refl in line-is bytes out to (Bytes n) y
+
 -- `heading` and `refusal`
 out-due : (out : List ℕ) → length out ≡ 4096 → outDue out ≡ answers tt
 unfolding outWrong
@@ -85,8 +93,19 @@ module _ (buffer to : List ℕ) (w : Written) (l : length buffer ≡ 4096) (out 
   pub heading-room : Heading buffer w to → Room out 0 (lineIn w to)
   heading-room x = text-room headingOf buffer to w l x out (omega arith)
 
-  pub refused-room : (n : ℕ) → n < 2 ^ 16 → RefusedLine n buffer w to → Room out 0 (lineIn w to)
-  refused-room n k x = text-room (refusedOf n) buffer to w l x out (omega (arith, refused-long n (omega arith)))
+  module _ (n : ℕ) (k : n < 2 ^ 16) (x : RefusedLine n buffer w to) where
+    refused-fits : length (refusedOf n) ≤ length out
+    refused-fits = omega (arith, refused-long n (omega arith))
+
+    pub refused-room : Room out 0 (lineIn w to)
+    refused-room = text-room (refusedOf n) buffer to w l x out refused-fits
+
+    module _ (out′ : List ℕ) (r : ℕ) (y : Appended out 0 (lineIn w to) out′ r) where
+      pub refused-within : r ≤ length out′
+      refused-within = front-within (refusedOf n) out out′ r (text-made (refusedOf n) buffer to w l x out out′ r y) refused-fits
+
+      pub refused-is : take r out′ ≡ refusedOf n
+      refused-is = front-is (refusedOf n) out out′ r (text-made (refusedOf n) buffer to w l x out out′ r y) refused-fits
 
 -- `rule_line`
 module _ (g : Flat) (l : Tables) (y : Ready g l) (r : ℕ) (lr : r < g .rules) (buffer to : List ℕ) (w : Written) (x : Line g r l buffer w to) (e : length buffer ≡ 4096) where
@@ -143,7 +162,7 @@ module _ (g : Flat) (out : List ℕ) (from : ℕ) where
     pub lining-end : g .rules ≤ r → LinesAdded g (g .rules) out from to next
     lining-end l = subst (λ k. LinesAdded g k out from to next) (le-antisymm (x .high) l) (x .added)
 
--- `table_report`: the heading and then the lines are the report
+-- `lines_report`: the heading and then the lines are the report
 module _ (g : Flat) (out mid to : List ℕ) (at r : ℕ) (room : reportRoom ≤ length out) (few : g .rules ≤ 512) (x : Appended out 0 headingOf mid at) where
   pub lines-room : at + 512 * lineRoom ≤ length mid
   lines-room = omega (arith, x .next, appended-long x)
@@ -152,15 +171,8 @@ module _ (g : Flat) (out mid to : List ℕ) (at r : ℕ) (room : reportRoom ≤ 
     short : length (headingOf ++ y .lines) ≤ length out
     short = omega (arith, y .short, length-append headingOf (y .lines))
 
-    stands : Writes (headingOf ++ y .lines) out (answers r) to
-    stands = writes (headingOf ++ y .lines) out to r r short (appended-then x (y .made)) refl
-
     pub report-within : r ≤ length to
-    report-within = omega (arith, short, appended-long (appended-then x (y .made)), answers-one (stands .counts))
+    report-within = front-within (headingOf ++ y .lines) out to r (appended-then x (y .made)) short
 
     pub report-is : GrammarReport g (take r to)
-    report-is = record {
-      lines = y .lines;
-      each = y .each;
-      is = line-is (headingOf ++ y .lines) out to (Bytes r) stands;
-    }
+    report-is = record { lines = y .lines; each = y .each; is = front-is (headingOf ++ y .lines) out to r (appended-then x (y .made)) short }

@@ -43,6 +43,15 @@ pub record SetsFillable (g : Flat) (follow first empty : List ℕ) : Type 0 wher
   pub first-long : length first ≡ g .rules * words (length (g .costs))
   pub empty-long : length empty ≡ words (g .rules)
 
+-- a well-formed grammar and all its tables of their exact lengths
+pub record Fillable (g : Flat) (l : Tables) : Type 0 where
+  pub well : WellFormed g
+  pub empty-long : length (l .empty) ≡ words (g .rules)
+  pub first-long : length (l .first) ≡ g .rules * words (length (g .costs))
+  pub follow-long : length (l .follow) ≡ g .rules * words (length (g .costs))
+  pub productive-long : length (l .productive) ≡ words (g .rules)
+  pub cost-long : length (l .cost) ≡ g .rules
+
 -- a well-formed grammar and its defined tables, from which the lines are written
 pub record Ready (g : Flat) (l : Tables) : Type 0 where
   pub well : WellFormed g

@@ -18,14 +18,13 @@ ghost use Rattle.firsts.specs.Lent.{lent as firsts};
 ghost use Rattle.follows.specs.Calls.{Full};
 ghost use Rattle.follows.specs.Lent.{lent};
 ghost use Rattle.costs.specs.Defined.{RowFillable, CostFillable, ProductiveDefined, CostDefined};
-ghost use Rattle.blocks.specs.Conditions.{Limited};
 ghost use Rattle.blocks.specs.Steps.{Fronts, fronts};
 ghost use Rattle.lines.specs.Line.{headingOf, refusedOf};
 ghost use Rattle.lines.specs.Lent.{tables};
 ghost use Rattle.lines.specs.Report.{GrammarReport};
 ghost use Rattle.lines.specs.Append.{Room};
 ghost use Rattle.report.specs.Report.{Reports, Prints};
-ghost use Rattle.report.specs.Steps.{Fits, lineRoom, reportRoom, lineIn, Stands, SetsFillable, Ready, LineAdded, LinesAdded};
+ghost use Rattle.report.specs.Steps.{Fits, lineRoom, reportRoom, lineIn, Stands, SetsFillable, Fillable, Ready, LineAdded, LinesAdded};
 
 // 98 blocks and a byte: a file of more bytes is refused as these are.
 const FILE_ROOM: usize = 50177;
@@ -80,10 +79,11 @@ fn append(written: Written, line: &[u8], out: &mut [u8], at: usize) -> usize
     copy(&line[..end], out, at)
 }
 
-// What is printed for a file that is refused with `number`.
+// Leaves what is printed for a file that is refused with `number` at the front of `out`.
 fn refusal(number: u16, out: &mut [u8]) -> usize
     requires { ⌜ reportRoom ≤ length (now out) ⌝ }
-    ensures { λ r. ⌜ Appended (now (out .entry)) 0 (refusedOf number) (now (out .exit)) r ⌝ }
+    ensures within { λ r. ⌜ r ≤ length (now (out .exit)) ⌝ }
+    ensures is { λ r. ⌜ take r (now (out .exit)) ≡ refusedOf number ⌝ }
 {
     let mut line = [0; LINE_ROOM];
     let written = lines::refused(number, &mut line);
@@ -181,7 +181,7 @@ fn rule_lines(
 }
 
 // The heading and the lines, from filled tables.
-fn table_report(
+fn lines_report(
     rules: u16,
     owners: &[u16],
     starts: &[u16],
@@ -280,6 +280,43 @@ fn fill_cost(
     };
 }
 
+// Fills the tables, and reports from them.
+fn tables_report(
+    rules: u16,
+    owners: &[u16],
+    starts: &[u16],
+    symbols: &[u16],
+    costs: &[u8],
+    empty: &mut [u32],
+    first: &mut [u32],
+    follow: &mut [u32],
+    productive: &mut [u32],
+    cost: &mut [u32],
+    out: &mut [u8],
+) -> usize
+    requires fillable { ⌜ Fillable (flat rules (now owners) (now starts) (now symbols) (now costs)) (tables (now empty) (now first) (now follow) (now productive) (now cost)) ⌝ }
+    requires room { ⌜ reportRoom ≤ length (now out) ⌝ }
+    ensures within { λ r. ⌜ r ≤ length (now (out .exit)) ⌝ }
+    ensures is { λ r. ⌜ GrammarReport (flat rules (now (owners .entry)) (now (starts .entry)) (now (symbols .entry)) (now (costs .entry))) (take r (now (out .exit))) ⌝ }
+{
+    fill_sets(rules, owners, starts, symbols, costs, follow, first, empty);
+    fill_productive(rules, owners, starts, symbols, costs, productive);
+    fill_cost(rules, owners, starts, symbols, costs, cost);
+    lines_report(
+        rules,
+        owners,
+        starts,
+        symbols,
+        costs,
+        empty,
+        first,
+        follow,
+        productive,
+        cost,
+        out,
+    )
+}
+
 // The report of a grammar, with tables of their exact lengths.
 fn grammar_report(
     rules: u16,
@@ -297,34 +334,22 @@ fn grammar_report(
     let n = wide(rules);
     let w = words_for(n);
     let k = table_words(n, costs.len());
-    let mut follow = [0; 8192];
-    let mut first = [0; 8192];
     let mut empty = [0; 16];
-    fill_sets(
-        rules,
-        owners,
-        starts,
-        symbols,
-        costs,
-        &mut follow[..k],
-        &mut first[..k],
-        &mut empty[..w],
-    );
+    let mut first = [0; 8192];
+    let mut follow = [0; 8192];
     let mut productive = [0; 16];
-    fill_productive(rules, owners, starts, symbols, costs, &mut productive[..w]);
     let mut cost = [0; 512];
-    fill_cost(rules, owners, starts, symbols, costs, &mut cost[..n]);
-    table_report(
+    tables_report(
         rules,
         owners,
         starts,
         symbols,
         costs,
-        &empty[..w],
-        &first[..k],
-        &follow[..k],
-        &productive[..w],
-        &cost[..n],
+        &mut empty[..w],
+        &mut first[..k],
+        &mut follow[..k],
+        &mut productive[..w],
+        &mut cost[..n],
         out,
     )
 }
@@ -338,7 +363,6 @@ fn fronts_report(
     costs: &[u8],
     out: &mut [u8],
 ) -> usize
-    requires limits { ⌜ Limited c ⌝ }
     requires long { ⌜ Fronts c (now owners) (now starts) (now symbols) (now costs) ⌝ }
     requires well { ⌜ WellFormed (fronts c (now owners) (now starts) (now symbols) (now costs)) ⌝ }
     requires room { ⌜ reportRoom ≤ length (now out) ⌝ }

@@ -1,4 +1,5 @@
 use native.Mathlib.Omega.{arith}
+use Rattle.report.proofs.Printing.{file-held, file-whole, file-refused}
 use borrow.Author.Needs.{needs}
 use Rattle.report.proofs.file_report.Statement.{statement}
 use Rattle.report.proofs.file_report.Tie as tie
@@ -8,73 +9,68 @@ use Rattle.blocks.proofs.read.Reads as read-reads
 use Rattle.report.proofs.fronts_report.Reads as fronts-report-reads
 use Rattle.report.proofs.refusal.Reads as refusal-reads
 
--- src/main.rt:365:32
 slice-aggregate-read : tie.Need-slice-aggregate-read
 slice-aggregate-read c = search needs
 
--- src/main.rt:365:45
 slice-aggregate-read-2 : tie.Need-slice-aggregate-read-2
 slice-aggregate-read-2 c = search needs
 
--- src/main.rt:365:58
 slice-aggregate-read-3 : tie.Need-slice-aggregate-read-3
 slice-aggregate-read-3 c = search needs
 
--- src/main.rt:365:72
 slice-aggregate-read-4 : tie.Need-slice-aggregate-read-4
 slice-aggregate-read-4 c = search needs
 
--- src/main.rt:365:9
 read-requires : tie.Need-read-requires
 read-requires c κs = search needs
 
--- src/main.rt:367:25
 enum-known-r : tie.Need-enum-known-r
 enum-known-r c = search needs
 
--- src/main.rt:367:48
 slice-aggregate-fronts-report : tie.Need-slice-aggregate-fronts-report
 slice-aggregate-fronts-report c = search needs
 
--- src/main.rt:367:57
 slice-aggregate-fronts-report-2 : tie.Need-slice-aggregate-fronts-report-2
 slice-aggregate-fronts-report-2 c = search needs
 
--- src/main.rt:367:66
 slice-aggregate-fronts-report-3 : tie.Need-slice-aggregate-fronts-report-3
 slice-aggregate-fronts-report-3 c = search needs
 
--- src/main.rt:367:76
 slice-aggregate-fronts-report-4 : tie.Need-slice-aggregate-fronts-report-4
 slice-aggregate-fronts-report-4 c = search needs
 
--- src/main.rt:367:31
 fronts-report-requires : tie.Need-fronts-report-requires
-fronts-report-requires c κs = ?
+fronts-report-requires c κs =
+    let r = c .before .before .before .before .before .before in
+    let k = r .before .before .before .before .before .before in
+    let h = file-held _ _ _ _ _ (k .read .result) (k .read .ensures) _ (r .r .given .1) in
+    (h .long, (h .well, k .before .before .before .before .before .before .before .pre))
 
--- src/main.rt:368:26
 enum-known-r-2 : tie.Need-enum-known-r-2
 enum-known-r-2 c = search needs
 
--- src/main.rt:368:32
 refusal-requires : tie.Need-refusal-requires
 refusal-requires c κs = search needs
 
--- src/main.rt:356:1
 same-length : tie.Need-same-length
 same-length c = search needs
 
--- src/main.rt:356:1
 returns : tie.Need-returns
-returns c = ?
+returns c =
+    let a = c .before .before in
+    let r = a .before .before .before .before .before .before .before in
+    let k = r .before .before .before .before .before .before in
+    (a .fronts-report .ensures .0, file-whole _ _ _ _ _ (k .read .result) (k .read .ensures) _ (r .r .given .1) _ (a .fronts-report .ensures .1))
 
--- src/main.rt:356:1
 same-length-2 : tie.Need-same-length-2
 same-length-2 c = search needs
 
--- src/main.rt:356:1
 returns-2 : tie.Need-returns-2
-returns-2 c = ?
+returns-2 c =
+    let a = c .before .before in
+    let r = a .before .before .before in
+    let k = r .before .before .before .before .before .before in
+    (a .refusal .ensures .0, file-refused _ _ _ _ _ (k .read .result) (k .read .ensures) _ (r .r2 .given .1) _ (a .refusal .ensures .1))
 
 pub file-report-spec : {M : Type 1} → statement M
 file-report-spec =

@@ -1,4 +1,7 @@
 use native.Mathlib.Omega.{arith}
+use Prim.Native.Nat.{_+_}
+use Rattle.blocks.proofs.Steps.{taken}
+use Rattle.report.proofs.Printing.{fronts-well, fronts-report}
 use borrow.Author.Needs.{needs}
 use Rattle.report.proofs.fronts_report.Statement.{statement}
 use Rattle.report.proofs.fronts_report.Tie as tie
@@ -7,49 +10,48 @@ use Rattle.report.proofs.fronts_report.Lts as lts
 use Rattle.grammar.proofs.inner.wide.Reads as wide-reads
 use Rattle.report.proofs.grammar_report.Reads as grammar-report-reads
 
--- src/main.rt:341:9
 wide-requires : tie.Need-wide-requires
 wide-requires c κs = search needs
 
--- src/main.rt:342:13
 add-e : tie.Need-add-e
 add-e c = search needs
 
--- src/main.rt:343:9
 wide-requires-2 : tie.Need-wide-requires-2
 wide-requires-2 c κs = search needs
 
--- src/main.rt:344:9
 wide-requires-3 : tie.Need-wide-requires-3
 wide-requires-3 c κs = search needs
 
--- src/main.rt:347:9
 slice-aggregate-grammar-report : tie.Need-slice-aggregate-grammar-report
-slice-aggregate-grammar-report c = ?
+slice-aggregate-grammar-report c = let w = c .before .before .before in taken (w .wide .result) (w .before .before .before .before .before .before .args .owners .now) (omega arith)
 
--- src/main.rt:348:9
 slice-aggregate-grammar-report-2 : tie.Need-slice-aggregate-grammar-report-2
-slice-aggregate-grammar-report-2 c = ?
+slice-aggregate-grammar-report-2 c = let w = c .before .before .before .before in taken (w .wide .result + 1) (w .before .before .before .before .before .before .args .starts .now) (omega arith)
 
--- src/main.rt:349:9
 slice-aggregate-grammar-report-3 : tie.Need-slice-aggregate-grammar-report-3
-slice-aggregate-grammar-report-3 c = ?
+slice-aggregate-grammar-report-3 c = let w = c .before .before .before .before .before in taken (c .before .before .before .before .wide2 .result) (w .before .before .before .before .before .before .args .symbols .now) (omega arith)
 
--- src/main.rt:350:9
 slice-aggregate-grammar-report-4 : tie.Need-slice-aggregate-grammar-report-4
-slice-aggregate-grammar-report-4 c = ?
+slice-aggregate-grammar-report-4 c = let w = c .before .before .before .before .before .before in taken (c .before .before .before .before .wide3 .result) (w .before .before .before .before .before .before .args .costs .now) (omega arith)
 
--- src/main.rt:345:5
 grammar-report-requires : tie.Need-grammar-report-requires
-grammar-report-requires c κs = ?
+grammar-report-requires c κs =
+    let t = c .before .before .before .before .before in
+    let n = t .before in
+    let p = n .before in
+    let s = p .before .before .before .before .before .before in
+    (fronts-well _ _ _ _ _ _ _ _ (p .wide .ensures .0) (n .wide2 .ensures .0) (t .wide3 .ensures .0) (s .pre .1 .0), s .pre .1 .1)
 
--- src/main.rt:326:1
 same-length : tie.Need-same-length
 same-length c = search needs
 
--- src/main.rt:326:1
 returns : tie.Need-returns
-returns c = ?
+returns c =
+    let a = c .before .before in
+    let t = a .before .before .before .before .before .before in
+    let n = t .before in
+    let p = n .before in
+    (a .grammar-report .ensures .0, fronts-report _ _ _ _ _ _ _ _ (p .wide .ensures .0) (n .wide2 .ensures .0) (t .wide3 .ensures .0) _ (a .grammar-report .ensures .1))
 
 pub fronts-report-spec : {M : Type 1} → statement M
 fronts-report-spec =

@@ -1,3 +1,7 @@
+use native.Mathlib.Omega.{arith}
+use lib.ListN.{length}
+use Rattle.blocks.proofs.Steps.{taken}
+use Rattle.report.proofs.Printing.{prints}
 use borrow.Author.Needs.{needs}
 use Rattle.report.proofs.main.Statement.{statement}
 use Rattle.report.proofs.main.Tie as tie
@@ -9,83 +13,70 @@ use Rattle.report.proofs.print.Reads as print-reads
 use Rattle.report.proofs.read_file.Reads as read-file-reads
 use Rattle.report.proofs.report_room.Reads as report-room-reads
 
--- src/main.rt:393:25
 slice-aggregate-read-file : tie.Need-slice-aggregate-read-file
 slice-aggregate-read-file c = search needs
 
--- src/main.rt:393:9
 read-file-requires : tie.Need-read-file-requires
 read-file-requires c κs = search needs
 
--- src/main.rt:394:20
 enum-known-got : tie.Need-enum-known-got
 enum-known-got c = search needs
 
--- src/main.rt:395:18
 enum-told : tie.Need-enum-told
 enum-told c = search needs
 
--- src/main.rt:395:18
 slice-aggregate-complain : tie.Need-slice-aggregate-complain
 slice-aggregate-complain c = search needs
 
--- src/main.rt:395:9
 complain-requires : tie.Need-complain-requires
 complain-requires c κs = search needs
 
--- src/main.rt:396:9
 returns : tie.Need-returns
 returns c = search needs
 
--- src/main.rt:398:19
 report-room-requires : tie.Need-report-room-requires
 report-room-requires c κs = search needs
 
--- src/main.rt:399:27
 array-share-prefix-file : tie.Need-array-share-prefix-file
-array-share-prefix-file c = ?
+array-share-prefix-file c = let g = c .before .before in omega (arith, g .before .before .before .read-file .ensures .most _ (g .got .given .1))
 
--- src/main.rt:399:27
 slice-aggregate-file-report : tie.Need-slice-aggregate-file-report
-slice-aggregate-file-report c = ?
+slice-aggregate-file-report c =
+    let g = c .before .before .before in
+    let r = g .before .before .before in
+    taken (g .got .given .0 .0) (r .read-file .last .0) (r .read-file .ensures .most _ (g .got .given .1))
 
--- src/main.rt:399:39
 slice-aggregate-file-report-2 : tie.Need-slice-aggregate-file-report-2
 slice-aggregate-file-report-2 c = search needs
 
--- src/main.rt:399:9
 file-report-requires : tie.Need-file-report-requires
 file-report-requires c κs = search needs
 
--- src/main.rt:400:15
 slice-aggregate-print : tie.Need-slice-aggregate-print
 slice-aggregate-print c = search needs
 
--- src/main.rt:400:25
 array-share-prefix-out : tie.Need-array-share-prefix-out
 array-share-prefix-out c = search needs
 
--- src/main.rt:400:25
 slice-aggregate-print-2 : tie.Need-slice-aggregate-print-2
-slice-aggregate-print-2 c = ?
+slice-aggregate-print-2 c = let f = c .before .before .before in taken (f .file-report .result) (f .file-report .last .1 .0) (f .file-report .ensures .0)
 
--- src/main.rt:400:9
 print-requires : tie.Need-print-requires
-print-requires c κs = ?
+print-requires c κs =
+    let f = c .before .before .before in
+    let g = f .before .before .before .before .before in
+    let r = g .before .before .before in
+    prints (length (r .read-file .last .0)) (g .got .given .0 .0) (r .read-file .last .0) _ (omega arith) (f .file-report .ensures .1)
 
--- src/main.rt:401:18
 slice-aggregate-complain-2 : tie.Need-slice-aggregate-complain-2
 slice-aggregate-complain-2 c = search needs
 
--- src/main.rt:401:9
 complain-requires-2 : tie.Need-complain-requires-2
 complain-requires-2 c κs = search needs
 
--- src/main.rt:391:1
 returns-2 : tie.Need-returns-2
 returns-2 c = search needs
 
--- src/main.rt:391:1
 returns-3 : tie.Need-returns-3
 returns-3 c = search needs
 

@@ -1,6 +1,7 @@
 use mathlib.Core.Path.{_≡_}
 use Prim.Native.Nat.{_≤_, _-_}
 use lib.ListN.{length}
+use Rattle.report.proofs.Reading.{read-cast, read-most, read-some, fits-failed, fits-bytes}
 use borrow.Author.Needs.{needs}
 use native.Mathlib.Omega.{arith}
 use Rattle.report.proofs.read_file.Statement.{statement}
@@ -34,31 +35,31 @@ same-length : tie.Need-same-length Inv-loop μ-loop
 same-length c = search needs
 
 returns : tie.Need-returns Inv-loop μ-loop
-returns c = ?
+returns c = fits-failed _
 
 same-length-2 : tie.Need-same-length-2 Inv-loop μ-loop
 same-length-2 c = search needs
 
 returns-2 : tie.Need-returns-2 Inv-loop μ-loop
-returns-2 c = ?
+returns-2 c = fits-bytes _ _ (omega arith)
 
 cast-n : tie.Need-cast-n Inv-loop μ-loop
-cast-n c = ?
+cast-n c = let k = c .before .before .before .before .read in read-cast (k .result) (record { sfits = k .ok }) (c .before .if1 .left)
 
 add-n : tie.Need-add-n Inv-loop μ-loop
-add-n c = ?
+add-n c = let k = c .before .before .before .before .read in omega (arith, read-most (k .result) (record { sfits = k .ok }) (c .before .if1 .left) _ (k .ensures))
 
 loop-less : tie.Need-loop-less Inv-loop μ-loop
-loop-less c = ?
+loop-less c = let k = c .before .before .before .before .read in omega (arith, read-most (k .result) (record { sfits = k .ok }) (c .before .if1 .left) _ (k .ensures), read-some (k .result) (record { sfits = k .ok }) (c .before .if1 .left) (c .if2 .left))
 
 loop-again : tie.Need-loop-again Inv-loop μ-loop
-loop-again c = ?
+loop-again c = let k = c .before .before .before .before .read in omega (arith, read-most (k .result) (record { sfits = k .ok }) (c .before .if1 .left) _ (k .ensures))
 
 same-length-3 : tie.Need-same-length-3 Inv-loop μ-loop
 same-length-3 c = search needs
 
 returns-3 : tie.Need-returns-3 Inv-loop μ-loop
-returns-3 c = ?
+returns-3 c = fits-bytes _ _ (omega arith)
 
 pub read-file-spec : {M : Type 1} → statement M
 read-file-spec =

@@ -1,4 +1,4 @@
-use Rattle.report.proofs.Adding.{text-stands, text-made, refused-room}
+use Rattle.report.proofs.Adding.{text-stands, refused-room, refused-within, refused-is}
 use borrow.Author.Needs.{needs}
 use Rattle.report.proofs.refusal.Statement.{statement}
 use Rattle.report.proofs.refusal.Tie as tie
@@ -19,7 +19,7 @@ same-length : tie.Need-same-length
 same-length c = search needs
 
 returns : tie.Need-returns
-returns c = search (needs, text-made)
+returns c = search (needs, refused-within, refused-is)
 
 pub refusal-spec : {M : Type 1} → statement M
 refusal-spec =

@@ -1,7 +1,7 @@
 use Rattle.report.proofs.Adding.{lines-room, report-within, report-is}
 use borrow.Author.Needs.{needs}
-use Rattle.report.proofs.table_report.Statement.{statement}
-use Rattle.report.proofs.table_report.Tie as tie
+use Rattle.report.proofs.lines_report.Statement.{statement}
+use Rattle.report.proofs.lines_report.Tie as tie
 
 heading-requires : tie.Need-heading-requires
 heading-requires c κs = search needs
@@ -15,5 +15,5 @@ same-length c = search needs
 returns : tie.Need-returns
 returns c = search (needs, report-within, report-is)
 
-pub table-report-spec : {M : Type 1} → statement M
-table-report-spec = tie.close (tie.spec heading-requires rule-lines-requires same-length returns)
+pub lines-report-spec : {M : Type 1} → statement M
+lines-report-spec = tie.close (tie.spec heading-requires rule-lines-requires same-length returns)

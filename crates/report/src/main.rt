@@ -30,10 +30,29 @@ ghost use Rattle.report.specs.Steps.{Fits, lineRoom, reportRoom, lineIn,
 const FILE_ROOM: usize = 50177;
 
 // The heading, and 512 lines of at most 3888 bytes.
-const REPORT_ROOM: usize = 1990685;
+const REPORT_ROOM: usize = 29 + 512 * 3888;
 
-// The room that a call of `lines` asks for.
+// The room that each call of `lines` asks for.
 const LINE_ROOM: usize = 4096;
+
+// The lists that the reader asks for.
+const OWNERS: usize = 4096;
+
+const STARTS: usize = 4097;
+
+const SYMBOLS: usize = 16384;
+
+const COSTS: usize = 512;
+
+// The words of the largest tables: one row by rule, a row for each rule, and a number for each rule.
+const ROW: usize = 16;
+
+const ROWS: usize = 512 * 16;
+
+const NUMBERS: usize = 512;
+
+// The mode of FOLLOW.
+const CORRECTED: u16 = 2;
 
 // How many bytes were read, or that a read failed.
 enum Got {
@@ -43,7 +62,7 @@ enum Got {
 
 // Room for the longest report. A caller knows no more of it than its length.
 fn report_room() -> [u8; REPORT_ROOM]
-    ensures { λ r. ⌜ 1990685 ≡ length r ⌝ }
+    ensures { λ r. ⌜ reportRoom ≡ length r ⌝ }
 {
     [0; REPORT_ROOM]
 }
@@ -236,7 +255,7 @@ fn fill_sets(
         starts,
         symbols,
         costs,
-        2,
+        CORRECTED,
         follow,
         first,
         empty,
@@ -334,11 +353,11 @@ fn grammar_report(
     let n = wide(rules);
     let w = words_for(n);
     let k = table_words(n, costs.len());
-    let mut empty = [0; 16];
-    let mut first = [0; 8192];
-    let mut follow = [0; 8192];
-    let mut productive = [0; 16];
-    let mut cost = [0; 512];
+    let mut empty = [0; ROW];
+    let mut first = [0; ROWS];
+    let mut follow = [0; ROWS];
+    let mut productive = [0; ROW];
+    let mut cost = [0; NUMBERS];
     tables_report(
         rules,
         owners,
@@ -389,10 +408,10 @@ fn file_report(file: &[u8], out: &mut [u8]) -> usize
     ensures within { λ r. ⌜ r ≤ length (now (out .exit)) ⌝ }
     ensures is { λ r. ⌜ Reports (now (file .entry)) (take r (now (out .exit))) ⌝ }
 {
-    let mut owners = [0; 4096];
-    let mut starts = [0; 4097];
-    let mut symbols = [0; 16384];
-    let mut costs = [0; 512];
+    let mut owners = [0; OWNERS];
+    let mut starts = [0; STARTS];
+    let mut symbols = [0; SYMBOLS];
+    let mut costs = [0; COSTS];
     let r = blocks::read(file, &mut owners, &mut starts, &mut symbols, &mut costs);
     match r {
         Reading::Counts(c) => fronts_report(c, &owners, &starts, &symbols, &costs, out),

@@ -1,13 +1,7 @@
-use native.Mathlib.Omega.{arith}
 use Rattle.report.proofs.Printing.{file-held, file-whole, file-refused}
 use borrow.Author.Needs.{needs}
 use Rattle.report.proofs.file_report.Statement.{statement}
 use Rattle.report.proofs.file_report.Tie as tie
-use Rattle.report.proofs.file_report.Reads as reads
-use Rattle.report.proofs.file_report.Lts as lts
-use Rattle.blocks.proofs.read.Reads as read-reads
-use Rattle.report.proofs.fronts_report.Reads as fronts-report-reads
-use Rattle.report.proofs.refusal.Reads as refusal-reads
 
 slice-aggregate-read : tie.Need-slice-aggregate-read
 slice-aggregate-read c = search needs

@@ -5,10 +5,6 @@ use Rattle.report.proofs.Printing.{fronts-well, fronts-report}
 use borrow.Author.Needs.{needs}
 use Rattle.report.proofs.fronts_report.Statement.{statement}
 use Rattle.report.proofs.fronts_report.Tie as tie
-use Rattle.report.proofs.fronts_report.Reads as reads
-use Rattle.report.proofs.fronts_report.Lts as lts
-use Rattle.grammar.proofs.inner.wide.Reads as wide-reads
-use Rattle.report.proofs.grammar_report.Reads as grammar-report-reads
 
 wide-requires : tie.Need-wide-requires
 wide-requires c κs = search needs

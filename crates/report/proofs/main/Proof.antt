@@ -5,13 +5,6 @@ use Rattle.report.proofs.Printing.{prints}
 use borrow.Author.Needs.{needs}
 use Rattle.report.proofs.main.Statement.{statement}
 use Rattle.report.proofs.main.Tie as tie
-use Rattle.report.proofs.main.Reads as reads
-use Rattle.report.proofs.main.Lts as lts
-use Rattle.report.proofs.complain.Reads as complain-reads
-use Rattle.report.proofs.file_report.Reads as file-report-reads
-use Rattle.report.proofs.print.Reads as print-reads
-use Rattle.report.proofs.read_file.Reads as read-file-reads
-use Rattle.report.proofs.report_room.Reads as report-room-reads
 
 slice-aggregate-read-file : tie.Need-slice-aggregate-read-file
 slice-aggregate-read-file c = search needs

@@ -6,9 +6,6 @@ use borrow.Author.Needs.{needs}
 use native.Mathlib.Omega.{arith}
 use Rattle.report.proofs.read_file.Statement.{statement}
 use Rattle.report.proofs.read_file.Tie as tie
-use Rattle.report.proofs.read_file.Reads as reads
-use Rattle.report.proofs.read_file.Lts as lts
-use Rattle.libc.proofs.read.Reads as read-reads
 
 abbrev Inv-loop : tie.InvT-loop
 Inv-loop file₀ n₀ file n = (n ≤ length file) × (length file ≡ length file₀)

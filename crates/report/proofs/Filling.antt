@@ -17,7 +17,7 @@ use Rattle.follows.specs.Calls.{Full, fillDue, Fill as FillSets}
 use Rattle.follows.specs.Lent.{lent}
 use Rattle.costs.specs.Calls.{FillProductive, Fill as FillCost}
 use Rattle.costs.specs.Defined.{RowFillable, CostFillable, ProductiveDefined, CostDefined}
-use Rattle.lines.specs.Lent.{Tables, tables}
+use Rattle.lines.specs.Lent.{tables}
 use Rattle.lines.proofs.Saying.{fills-define}
 use Rattle.report.specs.Steps.{SetsFillable, Fillable, Ready}
 

@@ -245,7 +245,7 @@ class Comparer(Comparison):
 
     def both(self, r, rust, ours):
         if not self.reading.place(r):
-            self.same("sentence", rust, ours)
+            self.same("sentence" if self.reading.asks(r) else "sentence, no costs asked for", rust, ours)
         elif rust == ours or rust != returned(*self.reading.again(r)):
             self.unexplained("sentence: not what taking the rest again gives", f"rule {r}: {rust}")
         else:

@@ -54,6 +54,8 @@ SAID = [
     ("bound loop", "sentences 1", LATE, "sentences 1", returned(0)),
     ("no way out", "costs", LATE, "costs 1", refused(12)),
     ("one without", "costs", LATE, "costs", [returned(1), returned(1), refused(12)]),
+    ("one without", "sentences 0", LATE, "sentences 0", returned(0)),
+    ("one without", "sentences 1", returned(0), "sentences 1", returned(0)),
     ("own sum", "costs", returned(0, 0, 32895), "costs 2", returned(32895)),
     ("own sum", "sentences 1", {"panicked": "attempt to add with overflow"}, "sentences 1", returned()),
     ("again", "costs", returned(0, 0, 0), "costs 1", returned(0)),

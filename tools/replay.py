@@ -3,12 +3,13 @@
 
     tools/replay.py          writes crates/replay/stdin, the grammars, and crates/replay/stdout, the answers
 
+The Rust's productions are the grammar's, which the oracle has seen to: a line for each, and then one for each rule.
 The sample is the well-formed grammars of tools/named.py, and of each shape of tools/grammars.py the first so many from
 one seed whose lines take no more bytes than SIZES says; at_limits and most_rules are too long for it. A rule's line has
 what the Rust gave: EMPTY, FIRST, FOLLOW, the rules to which there is a path; its cost, if the costs came back; and its
-sentence, if that came back too and no production used has the place at which document 01 says that the Rust's differs
-(only this is worked out here, by tools/reading.py; no answer is). What did not come back stays empty, and `stdin` says
-of each rule which it is.
+sentence, if that came back and no production used has the place at which document 01 says that the Rust's differs (only
+this is worked out here, by tools/reading.py; no answer is). What did not come back stays empty, and `stdin` says of
+each rule which it is.
 """
 import random
 import sys
@@ -21,6 +22,7 @@ import plain
 import reading
 
 FOLDER = compare.TOP / "crates" / "replay"
+COST, COST_AND_SENTENCE, SENTENCE = 1, 2, 3
 HEADING = "rule,empty,first,follow,paths,cost,sentence\n"
 SEED = 1
 SIZES = {shape: (2000, 16) for shape in grammars.shapes if shape not in grammars.large} | {"one_limit": (20000, 2)}
@@ -35,19 +37,18 @@ def came_back(outcome):
 
 
 def asked(g, rust):
-    """What is asked of each rule: 1 for its cost, 2 for its sentence too."""
-    if not came_back(rust["costs"]):
-        return [0] * g.rules
-    read = reading.Reading(g)
-    return [1 + (came_back(outcome) and not read.place(r)) for r, outcome in enumerate(rust["sentences"])]
+    """What is asked of each rule: COST, COST_AND_SENTENCE, SENTENCE or nothing."""
+    read, cost = reading.Reading(g), came_back(rust["costs"])
+    given = [came_back(outcome) and not read.place(r) for r, outcome in enumerate(rust["sentences"])]
+    return [(COST_AND_SENTENCE if cost else SENTENCE) if sentence else COST * cost for sentence in given]
 
 
 def lines(asks, rust):
     """The Rust's answers, a line for each rule."""
     for r, ask in enumerate(asks):
         to = [b for b, held in enumerate(rust["path"][r]) if held]
-        cost = rust["costs"]["returned"][r] if ask > 0 else ""
-        sentence = rust["sentences"][r]["returned"] if ask > 1 else []
+        cost = rust["costs"]["returned"][r] if ask in (COST, COST_AND_SENTENCE) else ""
+        sentence = rust["sentences"][r]["returned"] if ask in (COST_AND_SENTENCE, SENTENCE) else []
         sets = [numbers(held) for held in (rust["first"][r], rust["follow"][r], to)]
         yield ",".join([str(r), str(rust["empty"][r]), *sets, str(cost), numbers(sentence)]) + "\n"
 
@@ -55,7 +56,8 @@ def lines(asks, rust):
 def stored(g, rust):
     """The grammar as `stdin` has it, and its lines."""
     asks = asked(g, rust)
-    return f"{grammars.line(g)} {numbers(asks)}\n", "".join(lines(asks, rust))
+    prods = "".join(f"prod {p},{numbers(body)}\n" for p, (_, body) in enumerate(g.productions()))
+    return f"{grammars.line(g)} {numbers(asks)}\n", prods + "".join(lines(asks, rust))
 
 
 def short(ask, shape, most, count):

@@ -6,10 +6,12 @@ import sys
 import unittest
 
 sys.dont_write_bytecode = True
+import largest
 from block_text import TOP, blocks
 
-TEXTS = sorted((TOP / "examples").glob("*.txt"))
-G1 = (TOP / "examples" / "g1.txt").read_text()
+EXAMPLES = TOP / "examples"
+GRAMMARS, REFUSALS = sorted(EXAMPLES.glob("*.txt")), sorted((EXAMPLES / "refused").glob("*.txt"))
+G1 = (EXAMPLES / "g1.txt").read_text()
 
 # Lines that, put behind G1, make a wrong file.
 WRONG = """raw owners 9 9
@@ -69,16 +71,41 @@ class Blocks(unittest.TestCase):
         self.assertEqual(blocks.write(G1), block + struct.pack("<H", 459))
 
     def test_each_example_is_its_text(self):
-        for path in TEXTS:
+        for path in GRAMMARS + REFUSALS:
             with self.subTest(path.name):
                 self.assertEqual(blocks.write(path.read_text()), path.with_suffix(".blk").read_bytes())
 
+    def test_each_example_has_its_files(self):
+        for folder, kinds in ("", "blk report txt"), ("refused", "blk report txt"), ("largest", "blk report"):
+            files, *others = ({path.stem for path in (EXAMPLES / folder).glob(f"*.{kind}")} for kind in kinds.split())
+            self.assertTrue(files)
+            for other in others:
+                self.assertEqual(files, other)
+
+    def test_the_largest_file(self):
+        data = blocks.write(largest.text())
+        self.assertEqual((len(data), struct.unpack("<4H", data[2:10])), (98 * 512, (512, 512, 4096, 16384)))
+        self.assertEqual(data, (EXAMPLES / "largest" / "98-blocks.blk").read_bytes())
+        self.assertEqual(data + b"\0", (EXAMPLES / "largest" / "one-byte-more.blk").read_bytes())
+        self.again(data)
+        self.again(data + b"\0")
+
+    def test_refused_examples_say_their_number(self):
+        for path in REFUSALS:
+            with self.subTest(path.name):
+                number = path.name.split("-")[0]
+                self.assertEqual(path.with_suffix(".report").read_text(), f"refused {number}\n")
+                self.assertTrue(path.read_text().startswith(f"# Refused with {number}: "))
+
     def test_examples_again(self):
-        for path in TEXTS:
+        for path in GRAMMARS:
             with self.subTest(path.name):
                 text = blocks.show(path.with_suffix(".blk").read_bytes())
                 self.again(path.with_suffix(".blk").read_bytes())
                 self.assertNotRegex(text, "raw|byte")
+        for path in REFUSALS:
+            with self.subTest(path.name):
+                self.again(path.with_suffix(".blk").read_bytes())
 
     def test_wrong_files_again(self):
         sound = blocks.write(G1)

@@ -118,7 +118,7 @@ def random_grammar(dice):
 
 class Plain(unittest.TestCase):
     def test_reports_of_the_examples(self):
-        for path in sorted(EXAMPLES.glob("*.report")):
+        for path in sorted(EXAMPLES.rglob("*.report")):
             with self.subTest(path.name):
                 self.assertEqual(plain.report(path.with_suffix(".blk").read_bytes()), path.read_text())
 

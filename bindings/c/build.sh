@@ -19,10 +19,15 @@ emulator=$tools/bin/qemu-x86_64
 built=target/c
 mkdir -p "$built"
 
+# compile FLAG..: the kit's C compiler, with the header
+compile() {
+    "$tools/bin/clang" --target=x86_64-unknown-linux-gnu -std=c11 -O1 -fPIE -Wall -Wextra -Werror \
+        -nostdinc -isystem bindings/c/stdc -I bindings/include "$@"
+}
+
 # build FOLDER NAME: target/c/NAME from FOLDER/NAME.c
 build() {
-    "$tools/bin/clang" --target=x86_64-unknown-linux-gnu -std=c11 -O1 -fPIE -Wall -Wextra -Werror \
-        -nostdinc -isystem bindings/c/stdc -I bindings/include -c "$1/$2.c" -o "$built/$2.o"
+    compile -c "$1/$2.c" -o "$built/$2.o"
     "$tools/bin/ld.lld" -pie --dynamic-linker="$loader" -o "$built/$2" \
         "$lib/Scrt1.o" "$lib/crti.o" "$lib/crtbeginS.o" "$built/$2.o" "$library" \
         "$lib/libc.so.6" "$lib/libc_nonshared.a" "$loader" "$lib/libgcc.a" "$lib/crtendS.o" "$lib/crtn.o"

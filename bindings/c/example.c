@@ -35,7 +35,7 @@ int main(int argc, char **argv) {
     }
     /* the grammar is the front of each list; each table has its exact length */
     uint16_t rules = (uint16_t)n.rules;
-    size_t marks = (size_t)n.rules * ((n.tokens + 31) / 32), row = (n.rules + 31) / 32;
+    size_t width = (n.tokens + 31) / 32, marks = n.rules * width, row = (n.rules + 31) / 32;
     boltmarrow_answer done =
         boltmarrow_follow_fill(rules, owners, n.prods, starts, n.prods + 1, symbols, n.symbols, costs,
                                n.tokens, 2, follow, marks, first, marks, empty, row);
@@ -43,12 +43,12 @@ int main(int argc, char **argv) {
         fprintf(stderr, "%s: FOLLOW refused %u\n", argv[1], done.refusal);
         return 1;
     }
-    for (uint16_t r = 0; r < n.rules; r++) {
+    /* the marks are read from the table: boltmarrow_mark would check the grammar for each */
+    for (uint32_t r = 0; r < n.rules; r++) {
+        const uint32_t *marked = follow + r * width;
         printf("%u:", r);
-        for (uint16_t t = 0; t < n.tokens; t++)
-            if (boltmarrow_mark(rules, owners, n.prods, starts, n.prods + 1, symbols, n.symbols,
-                                costs, n.tokens, follow, marks, r, t).value)
-                printf(" %u", t);
+        for (uint32_t t = 0; t < n.tokens; t++)
+            if (marked[t / 32] >> t % 32 & 1) printf(" %u", t);
         printf("\n");
     }
     return 0;

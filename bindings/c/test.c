@@ -81,71 +81,145 @@ static result pack(boltmarrow_answer a) {
     return r;
 }
 
-/* The library's call, on lent copies of the call's lists. */
-static result library(const call *c) {
+static result stretch(boltmarrow_stretch s) {
+    result r = {s.refusal, {s.from, s.len, 0, 0}};
+    return r;
+}
+
+/* The lent copies of a call's lists. */
+typedef struct {
+    uint16_t *owners, *starts, *symbols, *out;
+    uint8_t *costs;
+    uint32_t *table[3];
+} copies;
+
+static copies lend_all(const call *c) {
     const grammar *g = &c->g;
-    uint16_t *owners = lend(0, g->owners, g->prods, 2), *starts = lend(1, g->starts, g->starts_len, 2);
-    uint16_t *symbols = lend(2, g->symbols, g->symbols_len, 2);
-    uint8_t *costs = lend(3, g->costs, g->tokens, 1);
-    uint32_t *t[3] = {NULL, NULL, NULL};
-    for (int i = 0; i < (int)strlen(tables_of[c->op]); i++) t[i] = lend(4 + i, c->table[i], c->table_len[i], 4);
-    uint16_t *out = c->op == MIN_SENTENCE ? lend(7, c->out, c->out_len, 2) : NULL;
-#define G g->rules, owners, g->prods, starts, g->starts_len, symbols, g->symbols_len, costs, g->tokens
-#define T(i) t[i], c->table_len[i]
+    copies l = {0};
+    l.owners = lend(0, g->owners, g->prods, 2), l.starts = lend(1, g->starts, g->starts_len, 2);
+    l.symbols = lend(2, g->symbols, g->symbols_len, 2), l.costs = lend(3, g->costs, g->tokens, 1);
+    for (int i = 0; i < (int)strlen(tables_of[c->op]); i++) l.table[i] = lend(4 + i, c->table[i], c->table_len[i], 4);
+    if (c->op == MIN_SENTENCE) l.out = lend(7, c->out, c->out_len, 2);
+    return l;
+}
+
+#define LISTS                                                                                                          \
+    l.owners, c->g.prods, l.starts, c->g.starts_len, l.symbols, c->g.symbols_len, l.costs, c->g.tokens
+#define G c->g.rules, LISTS
+#define T(i) l.table[i], c->table_len[i]
+
+/* The library's call. */
+static result library(const call *c, copies l) {
+    boltmarrow_ridx rule = {c->rule}, to = {c->to};
+    boltmarrow_tidx token = {c->token};
+    boltmarrow_pidx prod = {c->prod};
     switch (c->op) {
     case CHECK:
         return pack(boltmarrow_check(G));
-    case PRODUCTION: {
-        boltmarrow_stretch s = boltmarrow_production(G, c->prod);
-        result r = {s.refusal, {s.from, s.len, 0, 0}};
-        return r;
-    }
+    case PRODUCTION:
+        return stretch(boltmarrow_production(G, prod));
     case MARK:
-        return pack(boltmarrow_mark(G, T(0), c->rule, c->token));
+        return pack(boltmarrow_mark(G, T(0), rule, token));
     case RULE_MARK:
-        return pack(boltmarrow_rule_mark(G, T(0), c->rule));
+        return pack(boltmarrow_rule_mark(G, T(0), rule));
     case FIRST_CLEAR:
         return pack(boltmarrow_first_clear(G, T(0), T(1)));
     case FIRST_VISIT:
-        return pack(boltmarrow_first_visit(G, c->prod, T(0), T(1)));
+        return pack(boltmarrow_first_visit(G, prod, T(0), T(1)));
     case FIRST_FILL:
         return pack(boltmarrow_first_fill(G, T(0), T(1)));
     case HAS_PATH:
-        return pack(boltmarrow_has_path(G, c->rule, c->to));
+        return pack(boltmarrow_has_path(G, rule, to));
     case PRODUCTIVE_CLEAR:
         return pack(boltmarrow_productive_clear(G, T(0)));
     case PRODUCTIVE_VISIT:
-        return pack(boltmarrow_productive_visit(G, c->prod, T(0)));
+        return pack(boltmarrow_productive_visit(G, prod, T(0)));
     case PRODUCTIVE_FILL:
         return pack(boltmarrow_productive_fill(G, T(0)));
     case COST_CLEAR:
         return pack(boltmarrow_cost_clear(G, T(0)));
     case COST_VISIT:
-        return pack(boltmarrow_cost_visit(G, c->prod, T(0)));
+        return pack(boltmarrow_cost_visit(G, prod, T(0)));
     case COST_FILL:
         return pack(boltmarrow_cost_fill(G, T(0)));
     case MIN_SENTENCE_COST:
-        return pack(boltmarrow_min_sentence_cost(G, c->rule, T(0), T(1)));
+        return pack(boltmarrow_min_sentence_cost(G, rule, T(0), T(1)));
     case FOLLOW_CLEAR:
         return pack(boltmarrow_follow_clear(G, T(0)));
     case FOLLOW_VISIT:
-        return pack(boltmarrow_follow_visit(G, c->mode, c->prod, T(0), T(1), T(2)));
+        return pack(boltmarrow_follow_visit(G, c->mode, prod, T(0), T(1), T(2)));
     case FOLLOW_FILL:
         return pack(boltmarrow_follow_fill(G, c->mode, T(0), T(1), T(2)));
     case MIN_SENTENCE:
-        return pack(boltmarrow_min_sentence(G, c->rule, T(0), T(1), T(2), out, c->out_len));
+        return pack(boltmarrow_min_sentence(G, rule, T(0), T(1), T(2), l.out, c->out_len));
     case OPS:
         break;
     }
     return refused(0);
+}
+
+/* The calls that take a number of a type of its own, once more, with all of the number's slot of eight bytes to set: a
+ * caller fills 16 bits of it and may leave anything in the rest, so no call may read that. */
+#define LIST(type) type *, size_t
+#define WIDE(answer, name, ...)                                                                                        \
+    answer wide_##name(uint64_t, LIST(const uint16_t), LIST(const uint16_t), LIST(const uint16_t),                    \
+                       LIST(const uint8_t), __VA_ARGS__) __asm__("boltmarrow_" #name)
+
+WIDE(boltmarrow_stretch, production, uint64_t);
+WIDE(boltmarrow_answer, mark, LIST(const uint32_t), uint64_t, uint64_t);
+WIDE(boltmarrow_answer, rule_mark, LIST(const uint32_t), uint64_t);
+WIDE(boltmarrow_answer, first_visit, uint64_t, LIST(uint32_t), LIST(uint32_t));
+WIDE(boltmarrow_answer, has_path, uint64_t, uint64_t);
+WIDE(boltmarrow_answer, productive_visit, uint64_t, LIST(uint32_t));
+WIDE(boltmarrow_answer, cost_visit, uint64_t, LIST(uint32_t));
+WIDE(boltmarrow_answer, min_sentence_cost, uint64_t, LIST(uint32_t), LIST(uint32_t));
+WIDE(boltmarrow_answer, follow_visit, uint64_t, uint64_t, LIST(uint32_t), LIST(const uint32_t), LIST(const uint32_t));
+WIDE(boltmarrow_answer, follow_fill, uint64_t, LIST(uint32_t), LIST(uint32_t), LIST(uint32_t));
+WIDE(boltmarrow_answer, min_sentence, uint64_t, LIST(uint32_t), LIST(uint32_t), LIST(uint32_t), LIST(uint16_t));
+
+static uint64_t slot(uint16_t number) { return (uint64_t)next() << 32 | (uint64_t)(1 + below(65535)) << 16 | number; }
+
+static result wide(const call *c, copies l) {
+    uint64_t rules = slot(c->g.rules), rule = slot(c->rule), to = slot(c->to), token = slot(c->token);
+    uint64_t prod = slot(c->prod), mode = slot(c->mode);
+    switch (c->op) {
+    case PRODUCTION:
+        return stretch(wide_production(rules, LISTS, prod));
+    case MARK:
+        return pack(wide_mark(rules, LISTS, T(0), rule, token));
+    case RULE_MARK:
+        return pack(wide_rule_mark(rules, LISTS, T(0), rule));
+    case FIRST_VISIT:
+        return pack(wide_first_visit(rules, LISTS, prod, T(0), T(1)));
+    case HAS_PATH:
+        return pack(wide_has_path(rules, LISTS, rule, to));
+    case PRODUCTIVE_VISIT:
+        return pack(wide_productive_visit(rules, LISTS, prod, T(0)));
+    case COST_VISIT:
+        return pack(wide_cost_visit(rules, LISTS, prod, T(0)));
+    case MIN_SENTENCE_COST:
+        return pack(wide_min_sentence_cost(rules, LISTS, rule, T(0), T(1)));
+    case FOLLOW_VISIT:
+        return pack(wide_follow_visit(rules, LISTS, mode, prod, T(0), T(1), T(2)));
+    case FOLLOW_FILL:
+        return pack(wide_follow_fill(rules, LISTS, mode, T(0), T(1), T(2)));
+    case MIN_SENTENCE:
+        return pack(wide_min_sentence(rules, LISTS, rule, T(0), T(1), T(2), l.out, c->out_len));
+    default:
+        return library(c, l);
+    }
+}
+#undef LISTS
 #undef G
 #undef T
-}
+#undef LIST
+#undef WIDE
 
 /* Makes a call both ways and compares; the call's own lists then hold what the model left. */
 static result run(call *c) {
     const char *what = names[c->op];
-    result got = library(c), want = model(c);
+    copies l = lend_all(c);
+    result got = below(4) ? library(c, l) : wide(c, l), want = model(c);
     calls++;
     expect(what, got.refusal, want.refusal);
     for (int i = 0; i < 4; i++) expect(what, got.field[i], want.field[i]);

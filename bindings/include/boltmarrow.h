@@ -9,8 +9,26 @@
  * The lists of one call must not overlap where the call writes; a list of length 0 may have any
  * pointer that is not null and is aligned.
  *
- * Tables. A mark table (FIRST, FOLLOW): R rows of (T+31)/32 words, token t is bit t%32 of word
- * t/32. EMPTY and PRODUCTIVE: one row of (R+31)/32 words, by rule. COST and lengths: R numbers.
+ * Numbers. A rule's, a token's and a production's number are types of their own, so that none can
+ * be passed for another: boltmarrow_has_path(.., (boltmarrow_ridx){1}, (boltmarrow_ridx){2}). All
+ * numbers have 16 bits. A wider one that is put into such a type, or handed over as `rules` or
+ * `mode`, is cut to 16 bits before the call sees it: 65537 asks about rule 1. Check it before.
+ *
+ * Tables. A mark table (FIRST, FOLLOW) has R rows of (T+31)/32 words: token t of rule r is bit t%32
+ * of word r*((T+31)/32) + t/32. EMPTY and PRODUCTIVE are one row of (R+31)/32 words: rule r is bit
+ * r%32 of word r/32. To go through the marks that a fill left read the bits: a mark query checks
+ * the whole grammar each time.
+ *
+ * Spare bits, those of a row's last word behind its last mark: no visit or query reads or changes
+ * them; clear and fill leave them zero.
+ *
+ * COST is R numbers, 0 to 65535, or 65536 where none is known. The lengths are R numbers, the count
+ * of tokens of each rule's sentence: 65536 if it is longer than 65535, 65537 if the rule is
+ * ungrounded (its choice is circular) or has no cost.
+ *
+ * Stack. boltmarrow_min_sentence takes up to 110 KB: 208 bytes for each level of rules in rules, of
+ * which there are at most 512. boltmarrow_has_path takes 12 KB, every other call at most 1 KB. No
+ * call takes other memory than its stack and its lists.
  *
  * Refusals:
  *   1  R, T, P or N outside its limits (R 2..512, T 1..512, P 2..4096, N 1..16384)
@@ -25,7 +43,8 @@
  *   9, 10, 11  rule number R or more, token number T or more, production number P or more
  *  12  the rule asked for has no sentence
  *  13  it has one, but none costs 65535 or less
- *  14  the choice is circular
+ *  14  the choice is circular: the first choice, the lowest-numbered cheapest production, of the
+ *      rule or of one that it comes to leads back to that rule itself
  *  15  the sentence is longer than 65535 or than the room lent
  *  20  file empty, not whole blocks, or over 98 blocks
  *  21  a block's check differs
@@ -44,6 +63,18 @@
 #ifdef __cplusplus
 extern "C" {
 #endif
+
+/* The number of a rule, of a token, of a production, as the source's RIdx, TIdx and PIdx: in C
+ * (boltmarrow_ridx){1}, in C++ boltmarrow_ridx{1}. They are passed as numbers of 16 bits are. */
+typedef struct {
+    uint16_t number;
+} boltmarrow_ridx;
+typedef struct {
+    uint16_t number;
+} boltmarrow_tidx;
+typedef struct {
+    uint16_t number;
+} boltmarrow_pidx;
 
 /* refusal 0: answered; value 0 for done, 1 or 0 for yes or no and for changed or same, else the
  * number. Beside a refusal the value is 0. */
@@ -78,45 +109,46 @@ typedef struct {
 boltmarrow_answer boltmarrow_check(BOLTMARROW_GRAMMAR);
 
 /* A production's stretch of the symbol list. Refusals 1 to 6, 11. */
-boltmarrow_stretch boltmarrow_production(BOLTMARROW_GRAMMAR, uint16_t prod);
+boltmarrow_stretch boltmarrow_production(BOLTMARROW_GRAMMAR, boltmarrow_pidx prod);
 
 /* Whether a rule is marked for a token in FIRST or FOLLOW. Refusals 1 to 7, 9, 10. */
 boltmarrow_answer boltmarrow_mark(BOLTMARROW_GRAMMAR, const uint32_t *table, size_t table_len,
-                                  uint16_t rule, uint16_t token);
+                                  boltmarrow_ridx rule, boltmarrow_tidx token);
 
 /* Whether a rule is marked in EMPTY or PRODUCTIVE. Refusals 1 to 7, 9. */
 boltmarrow_answer boltmarrow_rule_mark(BOLTMARROW_GRAMMAR, const uint32_t *table, size_t table_len,
-                                       uint16_t rule);
+                                       boltmarrow_ridx rule);
 
 /* FIRST and EMPTY: set to zero; one production's step (changed or same); the defined tables,
  * whatever was there. Refusals 1 to 7; visit 11 too. */
 boltmarrow_answer boltmarrow_first_clear(BOLTMARROW_GRAMMAR, uint32_t *first, size_t first_len,
                                          uint32_t *empty, size_t empty_len);
-boltmarrow_answer boltmarrow_first_visit(BOLTMARROW_GRAMMAR, uint16_t prod, uint32_t *first,
+boltmarrow_answer boltmarrow_first_visit(BOLTMARROW_GRAMMAR, boltmarrow_pidx prod, uint32_t *first,
                                          size_t first_len, uint32_t *empty, size_t empty_len);
 boltmarrow_answer boltmarrow_first_fill(BOLTMARROW_GRAMMAR, uint32_t *first, size_t first_len,
                                         uint32_t *empty, size_t empty_len);
 
 /* Whether there is a path, of at least one production step, between two rules. Refusals 1 to 6, 9. */
-boltmarrow_answer boltmarrow_has_path(BOLTMARROW_GRAMMAR, uint16_t from, uint16_t to);
+boltmarrow_answer boltmarrow_has_path(BOLTMARROW_GRAMMAR, boltmarrow_ridx from,
+                                      boltmarrow_ridx to);
 
 /* PRODUCTIVE, as for FIRST. Refusals 1 to 7; visit 11 too. */
 boltmarrow_answer boltmarrow_productive_clear(BOLTMARROW_GRAMMAR, uint32_t *productive,
                                               size_t productive_len);
-boltmarrow_answer boltmarrow_productive_visit(BOLTMARROW_GRAMMAR, uint16_t prod,
+boltmarrow_answer boltmarrow_productive_visit(BOLTMARROW_GRAMMAR, boltmarrow_pidx prod,
                                               uint32_t *productive, size_t productive_len);
 boltmarrow_answer boltmarrow_productive_fill(BOLTMARROW_GRAMMAR, uint32_t *productive,
                                              size_t productive_len);
 
 /* COST: cleared is 65536, none known; else as for FIRST. Refusals 1 to 7; visit 11 too. */
 boltmarrow_answer boltmarrow_cost_clear(BOLTMARROW_GRAMMAR, uint32_t *cost, size_t cost_len);
-boltmarrow_answer boltmarrow_cost_visit(BOLTMARROW_GRAMMAR, uint16_t prod, uint32_t *cost,
+boltmarrow_answer boltmarrow_cost_visit(BOLTMARROW_GRAMMAR, boltmarrow_pidx prod, uint32_t *cost,
                                         size_t cost_len);
 boltmarrow_answer boltmarrow_cost_fill(BOLTMARROW_GRAMMAR, uint32_t *cost, size_t cost_len);
 
 /* The least cost of a sentence of a rule. Refusals 1 to 7, 9; then both tables are filled, and 12
  * or 13 may follow. */
-boltmarrow_answer boltmarrow_min_sentence_cost(BOLTMARROW_GRAMMAR, uint16_t rule,
+boltmarrow_answer boltmarrow_min_sentence_cost(BOLTMARROW_GRAMMAR, boltmarrow_ridx rule,
                                                uint32_t *productive, size_t productive_len,
                                                uint32_t *cost, size_t cost_len);
 
@@ -124,7 +156,7 @@ boltmarrow_answer boltmarrow_min_sentence_cost(BOLTMARROW_GRAMMAR, uint16_t rule
  * and EMPTY, which should be filled; a fill fills FIRST and EMPTY too. Refusals 1 to 7; visit 8 and
  * 11, fill 8 too. */
 boltmarrow_answer boltmarrow_follow_clear(BOLTMARROW_GRAMMAR, uint32_t *follow, size_t follow_len);
-boltmarrow_answer boltmarrow_follow_visit(BOLTMARROW_GRAMMAR, uint16_t mode, uint16_t prod,
+boltmarrow_answer boltmarrow_follow_visit(BOLTMARROW_GRAMMAR, uint16_t mode, boltmarrow_pidx prod,
                                           uint32_t *follow, size_t follow_len,
                                           const uint32_t *first, size_t first_len,
                                           const uint32_t *empty, size_t empty_len);
@@ -135,10 +167,10 @@ boltmarrow_answer boltmarrow_follow_fill(BOLTMARROW_GRAMMAR, uint16_t mode, uint
 /* Writes the cheapest sentence of a rule, each rule replaced by its first choice, to the front of
  * `out`; the answer is its length. Refusals 1 to 7, 9; then the three tables are filled, and 12 to
  * 15 may follow, which leave `out` as found. `out` is room of any length. */
-boltmarrow_answer boltmarrow_min_sentence(BOLTMARROW_GRAMMAR, uint16_t rule, uint32_t *productive,
-                                          size_t productive_len, uint32_t *cost, size_t cost_len,
-                                          uint32_t *lengths, size_t lengths_len, uint16_t *out,
-                                          size_t out_len);
+boltmarrow_answer boltmarrow_min_sentence(BOLTMARROW_GRAMMAR, boltmarrow_ridx rule,
+                                          uint32_t *productive, size_t productive_len,
+                                          uint32_t *cost, size_t cost_len, uint32_t *lengths,
+                                          size_t lengths_len, uint16_t *out, size_t out_len);
 
 /* Reads a block file into lists of 4096, 4097, 16384 and 512, else 7. Fills the front of each and
  * keeps the rest, also when 2 to 6 follow; with 7, 20, 21, 22, 1 and 23 all is as found. */

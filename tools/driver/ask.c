@@ -19,6 +19,9 @@ static uint16_t sentence[ROOM];
 #define GRAMMAR (uint16_t)rules, owners, prods, starts, prods + 1, symbols, length, costs, tokens
 #define MARKS ((size_t)rules * ((tokens + 31) / 32))
 #define ROW ((size_t)(rules + 31) / 32)
+#define RIDX(number) ((boltmarrow_ridx){(uint16_t)(number)})
+#define TIDX(number) ((boltmarrow_tidx){(uint16_t)(number)})
+#define PIDX(number) ((boltmarrow_pidx){(uint16_t)(number)})
 
 /* The next number on standard input, -1 at its end. */
 static long number(void) {
@@ -70,7 +73,7 @@ static void print_marks(const char *name, const uint32_t *table) {
         printf("%s[", comma(r));
         uint32_t shown = 0;
         for (uint16_t t = 0; t < tokens; t++)
-            if (boltmarrow_mark(GRAMMAR, table, MARKS, r, t).value) printf("%s%u", comma(shown++), t);
+            if (boltmarrow_mark(GRAMMAR, table, MARKS, RIDX(r), TIDX(t)).value) printf("%s%u", comma(shown++), t);
         printf("]");
     }
     printf("],");
@@ -84,7 +87,7 @@ static void print_follow(const char *name, uint16_t mode) {
 static void print_empty(void) {
     printf("\"empty\":[");
     for (uint16_t r = 0; r < rules; r++)
-        printf("%s%u", comma(r), boltmarrow_rule_mark(GRAMMAR, empty, ROW, r).value);
+        printf("%s%u", comma(r), boltmarrow_rule_mark(GRAMMAR, empty, ROW, RIDX(r)).value);
     printf("],");
 }
 
@@ -93,20 +96,20 @@ static void print_paths(void) {
     for (uint16_t from = 0; from < rules; from++) {
         printf("%s[", comma(from));
         for (uint16_t to = 0; to < rules; to++)
-            printf("%s%u", comma(to), boltmarrow_has_path(GRAMMAR, from, to).value);
+            printf("%s%u", comma(to), boltmarrow_has_path(GRAMMAR, RIDX(from), RIDX(to)).value);
         printf("]");
     }
     printf("],");
 }
 
 static void print_beyond(void) {
-    boltmarrow_stretch stretch = boltmarrow_production(GRAMMAR, (uint16_t)prods);
+    boltmarrow_stretch stretch = boltmarrow_production(GRAMMAR, PIDX(prods));
     printf("\"beyond\":[");
     outcome((boltmarrow_answer){stretch.refusal, stretch.len});
     printf(",");
-    outcome(boltmarrow_has_path(GRAMMAR, (uint16_t)rules, 0));
+    outcome(boltmarrow_has_path(GRAMMAR, RIDX(rules), RIDX(0)));
     printf(",");
-    outcome(boltmarrow_has_path(GRAMMAR, 0, (uint16_t)rules));
+    outcome(boltmarrow_has_path(GRAMMAR, RIDX(0), RIDX(rules)));
     printf("],");
 }
 
@@ -114,14 +117,14 @@ static void print_costs(void) {
     printf("\"costs\":[");
     for (uint16_t r = 0; r < rules; r++) {
         printf("%s", comma(r));
-        outcome(boltmarrow_min_sentence_cost(GRAMMAR, r, productive, ROW, prices, rules));
+        outcome(boltmarrow_min_sentence_cost(GRAMMAR, RIDX(r), productive, ROW, prices, rules));
     }
     printf("],");
 }
 
 static void print_sentence(uint16_t rule) {
-    boltmarrow_answer answer = boltmarrow_min_sentence(GRAMMAR, rule, productive, ROW, prices, rules, lengths, rules,
-                                                       sentence, ROOM);
+    boltmarrow_answer answer = boltmarrow_min_sentence(GRAMMAR, RIDX(rule), productive, ROW, prices, rules, lengths,
+                                                       rules, sentence, ROOM);
     if (answer.refusal) {
         refused(answer.refusal);
         return;

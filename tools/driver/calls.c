@@ -34,31 +34,34 @@ static void says(struct call *c, boltmarrow_answer said) {
 #define BYTES(k) c->list[k].at, c->list[k].len
 #define HALVES(k) (uint16_t *)(void *)c->list[k].at, c->list[k].len
 #define WORDS(k) (uint32_t *)(void *)c->list[k].at, c->list[k].len
+#define RIDX(k) ((boltmarrow_ridx){c->number[k]})
+#define TIDX(k) ((boltmarrow_tidx){c->number[k]})
+#define PIDX(k) ((boltmarrow_pidx){c->number[k]})
 #define GRAMMAR c->number[0], HALVES(0), HALVES(1), HALVES(2), BYTES(3)
 #define CALL(name, ...)                                                                                                \
     static void name(struct call *c) { says(c, boltmarrow_##name(__VA_ARGS__)); }
 
 CALL(check, GRAMMAR)
-CALL(mark, GRAMMAR, WORDS(4), c->number[1], c->number[2])
-CALL(rule_mark, GRAMMAR, WORDS(4), c->number[1])
+CALL(mark, GRAMMAR, WORDS(4), RIDX(1), TIDX(2))
+CALL(rule_mark, GRAMMAR, WORDS(4), RIDX(1))
 CALL(first_clear, GRAMMAR, WORDS(4), WORDS(5))
-CALL(first_visit, GRAMMAR, c->number[1], WORDS(4), WORDS(5))
+CALL(first_visit, GRAMMAR, PIDX(1), WORDS(4), WORDS(5))
 CALL(first_fill, GRAMMAR, WORDS(4), WORDS(5))
-CALL(has_path, GRAMMAR, c->number[1], c->number[2])
+CALL(has_path, GRAMMAR, RIDX(1), RIDX(2))
 CALL(productive_clear, GRAMMAR, WORDS(4))
-CALL(productive_visit, GRAMMAR, c->number[1], WORDS(4))
+CALL(productive_visit, GRAMMAR, PIDX(1), WORDS(4))
 CALL(productive_fill, GRAMMAR, WORDS(4))
 CALL(cost_clear, GRAMMAR, WORDS(4))
-CALL(cost_visit, GRAMMAR, c->number[1], WORDS(4))
+CALL(cost_visit, GRAMMAR, PIDX(1), WORDS(4))
 CALL(cost_fill, GRAMMAR, WORDS(4))
-CALL(min_sentence_cost, GRAMMAR, c->number[1], WORDS(4), WORDS(5))
+CALL(min_sentence_cost, GRAMMAR, RIDX(1), WORDS(4), WORDS(5))
 CALL(follow_clear, GRAMMAR, WORDS(4))
-CALL(follow_visit, GRAMMAR, c->number[1], c->number[2], WORDS(4), WORDS(5), WORDS(6))
+CALL(follow_visit, GRAMMAR, c->number[1], PIDX(2), WORDS(4), WORDS(5), WORDS(6))
 CALL(follow_fill, GRAMMAR, c->number[1], WORDS(4), WORDS(5), WORDS(6))
-CALL(min_sentence, GRAMMAR, c->number[1], WORDS(4), WORDS(5), WORDS(6), HALVES(7))
+CALL(min_sentence, GRAMMAR, RIDX(1), WORDS(4), WORDS(5), WORDS(6), HALVES(7))
 
 static void production(struct call *c) {
-    boltmarrow_stretch said = boltmarrow_production(GRAMMAR, c->number[1]);
+    boltmarrow_stretch said = boltmarrow_production(GRAMMAR, PIDX(1));
     memcpy(c->answer, &said, sizeof said);
     c->answers = 3;
 }

@@ -1,9 +1,39 @@
 use crate::sys;
-use crate::table::{done, row};
-use crate::{Filled, Grammar, PIdx, RIdx, Refusal, TIdx};
+use crate::table::{done, mark, rule_mark, tokens};
+use crate::{Grammar, PIdx, RIdx, Refusal, TIdx};
 
-/// FIRST and EMPTY, whole.
-pub type Firsts<'g> = Filled<FirstTable<'g>>;
+/// FIRST and EMPTY, whole: as their fill left them. They can be asked and not changed.
+#[derive(Clone, Debug)]
+pub struct Firsts<'g>(pub(crate) FirstTable<'g>);
+
+impl Firsts<'_> {
+    /// Whether the rule can start with the token.
+    ///
+    /// # Errors
+    ///
+    /// Refusal 9 for a rule, 10 for a token that the grammar does not have.
+    pub fn is_set(&self, ridx: RIdx, tidx: TIdx) -> Result<bool, Refusal> {
+        self.0.is_set(ridx, tidx)
+    }
+
+    /// Whether the rule can vanish.
+    ///
+    /// # Errors
+    ///
+    /// Refusal 9 for a rule that the grammar does not have.
+    pub fn is_epsilon_set(&self, ridx: RIdx) -> Result<bool, Refusal> {
+        self.0.is_epsilon_set(ridx)
+    }
+
+    /// The tokens that the rule can start with, rising.
+    ///
+    /// # Errors
+    ///
+    /// Refusal 9 for a rule that the grammar does not have.
+    pub fn firsts(&self, ridx: RIdx) -> Result<impl Iterator<Item = TIdx> + '_, Refusal> {
+        self.0.firsts(ridx)
+    }
+}
 
 /// FIRST and EMPTY, filled by single visits in any order. Each mark that it holds is true; it is whole when no visit
 /// changes it.
@@ -28,7 +58,7 @@ impl<'g> FirstTable<'g> {
     pub(crate) fn filled(grammar: &'g Grammar) -> Firsts<'g> {
         let mut table = Self::unfilled(grammar);
         done(sys::first_fill(grammar.flat(), &mut table.first, &mut table.empty));
-        Filled(table)
+        Firsts(table)
     }
 
     /// Takes all marks away.
@@ -36,24 +66,39 @@ impl<'g> FirstTable<'g> {
         done(sys::first_clear(self.grammar.flat(), &mut self.first, &mut self.empty));
     }
 
-    /// Makes the step of one production; whether the table changed. Refusal 11.
+    /// Makes the step of one production; whether a table changed.
+    ///
+    /// # Errors
+    ///
+    /// Refusal 11 for a production that the grammar does not have.
     pub fn visit(&mut self, pidx: PIdx) -> Result<bool, Refusal> {
         sys::first_visit(self.grammar.flat(), pidx.0, &mut self.first, &mut self.empty).yes()
     }
 
-    /// Whether the rule can start with the token. Refusals 9 and 10. Each such question checks the whole grammar; to go
-    /// through a set take [`firsts`](Self::firsts).
+    /// Whether the rule is known to start with the token.
+    ///
+    /// # Errors
+    ///
+    /// Refusal 9 for a rule, 10 for a token that the grammar does not have.
     pub fn is_set(&self, ridx: RIdx, tidx: TIdx) -> Result<bool, Refusal> {
-        sys::mark(self.grammar.flat(), &self.first, ridx.0, tidx.0).yes()
+        mark(self.grammar, &self.first, ridx, tidx)
     }
 
-    /// Whether the rule can vanish. Refusal 9.
+    /// Whether the rule is known to vanish.
+    ///
+    /// # Errors
+    ///
+    /// Refusal 9 for a rule that the grammar does not have.
     pub fn is_epsilon_set(&self, ridx: RIdx) -> Result<bool, Refusal> {
-        sys::rule_mark(self.grammar.flat(), &self.empty, ridx.0).yes()
+        rule_mark(self.grammar, &self.empty, ridx)
     }
 
-    /// The tokens that the rule can start with, rising. Refusal 9.
+    /// The tokens that the rule is known to start with, rising.
+    ///
+    /// # Errors
+    ///
+    /// Refusal 9 for a rule that the grammar does not have.
     pub fn firsts(&self, ridx: RIdx) -> Result<impl Iterator<Item = TIdx> + '_, Refusal> {
-        row(self.grammar, &self.first, ridx)
+        tokens(self.grammar, &self.first, ridx)
     }
 }

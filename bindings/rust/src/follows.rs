@@ -1,6 +1,6 @@
 use crate::sys;
-use crate::table::{done, row};
-use crate::{Filled, FirstTable, Firsts, Grammar, PIdx, RIdx, Refusal, TIdx};
+use crate::table::{done, mark, tokens};
+use crate::{FirstTable, Firsts, Grammar, PIdx, RIdx, Refusal, TIdx};
 
 /// How FOLLOW looks at what comes after a rule.
 #[derive(Clone, Copy, Debug, Eq, Hash, PartialEq)]
@@ -11,15 +11,41 @@ pub enum Mode {
     Corrected = 2,
 }
 
-/// FOLLOW, whole.
-pub type Follows<'g> = Filled<FollowTable<'g>>;
+/// FOLLOW, whole: as its fill left it, with the FIRST and EMPTY that it was made from. It can be asked and not changed.
+#[derive(Clone, Debug)]
+pub struct Follows<'g>(pub(crate) FollowTable<'g>);
+
+impl<'g> Follows<'g> {
+    /// Whether the token can follow the rule.
+    ///
+    /// # Errors
+    ///
+    /// Refusal 9 for a rule, 10 for a token that the grammar does not have.
+    pub fn is_set(&self, ridx: RIdx, tidx: TIdx) -> Result<bool, Refusal> {
+        self.0.is_set(ridx, tidx)
+    }
+
+    /// The tokens that can follow the rule, rising.
+    ///
+    /// # Errors
+    ///
+    /// Refusal 9 for a rule that the grammar does not have.
+    pub fn follows(&self, ridx: RIdx) -> Result<impl Iterator<Item = TIdx> + '_, Refusal> {
+        self.0.follows(ridx)
+    }
+
+    /// The FIRST and EMPTY that it was made from.
+    pub fn firsts(&self) -> &Firsts<'g> {
+        self.0.firsts()
+    }
+}
 
 /// FOLLOW, filled by single visits in any order, all in one mode, which read whole FIRST and EMPTY tables. Each mark
 /// that it holds is true; it is whole when no visit changes it.
 #[derive(Clone, Debug)]
 pub struct FollowTable<'g> {
     mode: Mode,
-    follow: Vec<u32>,
+    pub(crate) follow: Vec<u32>,
     firsts: Firsts<'g>,
 }
 
@@ -33,29 +59,44 @@ impl<'g> FollowTable<'g> {
     pub(crate) fn filled(grammar: &'g Grammar, mode: Mode) -> Follows<'g> {
         let (mut follow, mut firsts) = (grammar.marks(), FirstTable::unfilled(grammar));
         done(sys::follow_fill(grammar.flat(), mode as u16, &mut follow, &mut firsts.first, &mut firsts.empty));
-        Filled(FollowTable { mode, follow, firsts: Filled(firsts) })
+        Follows(FollowTable { mode, follow, firsts: Firsts(firsts) })
+    }
+
+    fn grammar(&self) -> &'g Grammar {
+        self.firsts.0.grammar
     }
 
     /// Takes all marks away but one: eof follows the start.
     pub fn clear(&mut self) {
-        done(sys::follow_clear(self.firsts.grammar.flat(), &mut self.follow));
+        done(sys::follow_clear(self.grammar().flat(), &mut self.follow));
     }
 
-    /// Makes the step of one production; whether the table changed. Refusal 11.
+    /// Makes the step of one production; whether the table changed.
+    ///
+    /// # Errors
+    ///
+    /// Refusal 11 for a production that the grammar does not have.
     pub fn visit(&mut self, pidx: PIdx) -> Result<bool, Refusal> {
-        let FirstTable { grammar, first, empty } = &*self.firsts;
+        let FirstTable { grammar, first, empty } = &self.firsts.0;
         sys::follow_visit(grammar.flat(), self.mode as u16, pidx.0, &mut self.follow, first, empty).yes()
     }
 
-    /// Whether the token can follow the rule. Refusals 9 and 10. Each such question checks the whole grammar; to go
-    /// through a set take [`follows`](Self::follows).
+    /// Whether the token is known to follow the rule.
+    ///
+    /// # Errors
+    ///
+    /// Refusal 9 for a rule, 10 for a token that the grammar does not have.
     pub fn is_set(&self, ridx: RIdx, tidx: TIdx) -> Result<bool, Refusal> {
-        sys::mark(self.firsts.grammar.flat(), &self.follow, ridx.0, tidx.0).yes()
+        mark(self.grammar(), &self.follow, ridx, tidx)
     }
 
-    /// The tokens that can follow the rule, rising. Refusal 9.
+    /// The tokens that are known to follow the rule, rising.
+    ///
+    /// # Errors
+    ///
+    /// Refusal 9 for a rule that the grammar does not have.
     pub fn follows(&self, ridx: RIdx) -> Result<impl Iterator<Item = TIdx> + '_, Refusal> {
-        row(self.firsts.grammar, &self.follow, ridx)
+        tokens(self.grammar(), &self.follow, ridx)
     }
 
     /// The FIRST and EMPTY that it reads.

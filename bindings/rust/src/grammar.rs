@@ -2,7 +2,7 @@ use crate::sys::{self, Flat};
 use crate::table::words;
 use crate::{
     CostTable, Costs, FirstTable, Firsts, FollowTable, Follows, Mode, PIdx, Productive, ProductiveTable, RIdx, Refusal,
-    SentenceGenerator, Symbol, TIdx,
+    SIdx, SentenceGenerator, Symbol, TIdx,
 };
 
 /// A well-formed grammar in document 01's flat form.
@@ -13,12 +13,51 @@ pub struct Grammar {
     starts: Vec<u16>,
     symbols: Vec<u16>,
     costs: Vec<u8>,
+    rules_prods: RulesProds,
+}
+
+/// The productions rule after rule, each rule's rising. It is made from the owners.
+#[derive(Clone, Debug, Eq, PartialEq)]
+struct RulesProds {
+    /// Where in `prods` each rule's begin, and behind them the end.
+    starts: Vec<usize>,
+    prods: Vec<PIdx>,
+}
+
+impl RulesProds {
+    /// Each owner is a rule.
+    fn new(rules: u16, owners: &[u16]) -> RulesProds {
+        let mut starts = vec![0; usize::from(rules) + 1];
+        for owner in owners {
+            starts[usize::from(*owner) + 1] += 1;
+        }
+        for rule in 0..usize::from(rules) {
+            starts[rule + 1] += starts[rule];
+        }
+        let (mut next, mut prods) = (starts.clone(), vec![PIdx(0); owners.len()]);
+        for (owner, pidx) in owners.iter().zip((0..).map(PIdx)) {
+            let place = &mut next[usize::from(*owner)];
+            prods[*place] = pidx;
+            *place += 1;
+        }
+        RulesProds { starts, prods }
+    }
+
+    /// A rule's, for a rule that is there.
+    fn of(&self, ridx: RIdx) -> &[PIdx] {
+        let rule = usize::from(ridx);
+        &self.prods[self.starts[rule]..self.starts[rule + 1]]
+    }
 }
 
 impl Grammar {
     /// The grammar of these tables. Production p belongs to rule `owners[p]` and is `symbols` from `starts[p]` up to,
     /// without, `starts[p + 1]`; a symbol below 32768 is a token, otherwise rule (value - 32768). The last token is
-    /// eof, rule 0 the start. `costs` has a byte for each token. Refusals 1 to 6.
+    /// eof, rule 0 the start. `costs` has a byte for each token.
+    ///
+    /// # Errors
+    ///
+    /// Refusals 1 to 6: the lowest that is due, if the tables are no grammar.
     pub fn new(
         rules: u16,
         owners: Vec<u16>,
@@ -26,12 +65,15 @@ impl Grammar {
         symbols: Vec<u16>,
         costs: Vec<u8>,
     ) -> Result<Grammar, Refusal> {
-        let grammar = Grammar { rules, owners, starts, symbols, costs };
-        sys::check(grammar.flat()).number()?;
-        Ok(grammar)
+        sys::check(Flat { rules, owners: &owners, starts: &starts, symbols: &symbols, costs: &costs }).number()?;
+        Ok(Grammar::checked(rules, owners, starts, symbols, costs))
     }
 
-    /// The grammar of a block file. Refusals 20 to 23 and 1 to 6.
+    /// The grammar of a block file.
+    ///
+    /// # Errors
+    ///
+    /// Refusals 20 to 23 for the file, 1 to 6 for the grammar in it.
     pub fn from_blocks(file: &[u8]) -> Result<Grammar, Refusal> {
         let (mut owners, mut starts) = (vec![0; 4096], vec![0; 4097]);
         let (mut symbols, mut costs) = (vec![0; 16384], vec![0; 512]);
@@ -40,7 +82,13 @@ impl Grammar {
         starts.truncate(counts.prods as usize + 1);
         symbols.truncate(counts.symbols as usize);
         costs.truncate(counts.tokens as usize);
-        Ok(Grammar { rules: counts.rules as u16, owners, starts, symbols, costs })
+        Ok(Grammar::checked(counts.rules as u16, owners, starts, symbols, costs))
+    }
+
+    /// The grammar of tables that the library has checked.
+    fn checked(rules: u16, owners: Vec<u16>, starts: Vec<u16>, symbols: Vec<u16>, costs: Vec<u8>) -> Grammar {
+        let rules_prods = RulesProds::new(rules, &owners);
+        Grammar { rules, owners, starts, symbols, costs, rules_prods }
     }
 
     /// The tables back, in the order in which [`new`](Self::new) takes them.
@@ -49,7 +97,7 @@ impl Grammar {
     }
 
     pub(crate) fn flat(&self) -> Flat<'_> {
-        let Grammar { rules, owners, starts, symbols, costs } = self;
+        let Grammar { rules, owners, starts, symbols, costs, .. } = self;
         Flat { rules: *rules, owners, starts, symbols, costs }
     }
 
@@ -108,24 +156,84 @@ impl Grammar {
         TIdx(self.tokens_len().0 - 1)
     }
 
-    /// The symbols of a production. Refusal 11.
-    pub fn prod(&self, pidx: PIdx) -> Result<impl ExactSizeIterator<Item = Symbol> + '_, Refusal> {
-        let range = sys::production(self.flat(), pidx.0).range()?;
-        Ok(self.symbols[range].iter().map(|&number| Symbol::from_flat(number)))
+    /// Done where there is such a rule, else refusal 9.
+    pub(crate) fn has_rule(&self, ridx: RIdx) -> Result<(), Refusal> {
+        if ridx < self.rules_len() {
+            Ok(())
+        } else {
+            Err(Refusal::RuleNumber)
+        }
     }
 
-    /// The rule that a production belongs to. Refusal 11.
+    /// Done where there is such a token, else refusal 10.
+    pub(crate) fn has_token(&self, tidx: TIdx) -> Result<(), Refusal> {
+        if tidx < self.tokens_len() {
+            Ok(())
+        } else {
+            Err(Refusal::TokenNumber)
+        }
+    }
+
+    /// A production's stretch of the symbol list.
+    fn stretch(&self, pidx: PIdx) -> Result<&[u16], Refusal> {
+        match self.starts.get(usize::from(pidx)..usize::from(pidx) + 2) {
+            Some(&[from, to]) => Ok(&self.symbols[usize::from(from)..usize::from(to)]),
+            _ => Err(Refusal::ProductionNumber),
+        }
+    }
+
+    /// The symbols of a production.
+    ///
+    /// # Errors
+    ///
+    /// Refusal 11 for a production that the grammar does not have.
+    pub fn prod(&self, pidx: PIdx) -> Result<impl ExactSizeIterator<Item = Symbol> + '_, Refusal> {
+        Ok(self.stretch(pidx)?.iter().map(|&number| Symbol::from_flat(number)))
+    }
+
+    /// How many symbols a production has.
+    ///
+    /// # Errors
+    ///
+    /// Refusal 11 for a production that the grammar does not have.
+    pub fn prod_len(&self, pidx: PIdx) -> Result<SIdx, Refusal> {
+        Ok(SIdx(self.stretch(pidx)?.len() as u16))
+    }
+
+    /// The rule that a production belongs to.
+    ///
+    /// # Errors
+    ///
+    /// Refusal 11 for a production that the grammar does not have.
     pub fn prod_to_rule(&self, pidx: PIdx) -> Result<RIdx, Refusal> {
         let owner = self.owners.get(usize::from(pidx));
         owner.map(|&rule| RIdx(rule)).ok_or(Refusal::ProductionNumber)
     }
 
-    /// The cost of a token. Refusal 10.
+    /// The productions of a rule, rising; there is at least one.
+    ///
+    /// # Errors
+    ///
+    /// Refusal 9 for a rule that the grammar does not have.
+    pub fn rule_to_prods(&self, ridx: RIdx) -> Result<&[PIdx], Refusal> {
+        self.has_rule(ridx)?;
+        Ok(self.rules_prods.of(ridx))
+    }
+
+    /// The cost of a token.
+    ///
+    /// # Errors
+    ///
+    /// Refusal 10 for a token that the grammar does not have.
     pub fn token_cost(&self, tidx: TIdx) -> Result<u8, Refusal> {
         self.costs.get(usize::from(tidx)).copied().ok_or(Refusal::TokenNumber)
     }
 
-    /// Whether there is a path, of at least one production step, between two rules. Refusal 9.
+    /// Whether there is a path, of at least one production step, between two rules.
+    ///
+    /// # Errors
+    ///
+    /// Refusal 9 if the grammar does not have one of the rules.
     pub fn has_path(&self, from: RIdx, to: RIdx) -> Result<bool, Refusal> {
         sys::has_path(self.flat(), from.0, to.0).yes()
     }

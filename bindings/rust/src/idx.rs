@@ -38,6 +38,10 @@ idx!(
     /// A token's number.
     TIdx
 );
+idx!(
+    /// A symbol's place in its production, and the number of a production's symbols.
+    SIdx
+);
 
 /// In the flat symbol list a number from here on is a rule.
 const RULE: u16 = 32768;

@@ -23,6 +23,7 @@
 //! # Ok::<(), boltmarrow::Refusal>(())
 //! ```
 #![deny(missing_docs, unsafe_code)]
+#![warn(clippy::missing_errors_doc)]
 
 mod costs;
 mod firsts;
@@ -33,12 +34,13 @@ mod refusal;
 mod sentences;
 mod sys;
 mod table;
+#[cfg(test)]
+mod tests;
 
 pub use costs::{CostTable, Costs, Productive, ProductiveTable};
 pub use firsts::{FirstTable, Firsts};
 pub use follows::{FollowTable, Follows, Mode};
 pub use grammar::Grammar;
-pub use idx::{PIdx, RIdx, Symbol, TIdx};
+pub use idx::{PIdx, RIdx, SIdx, Symbol, TIdx};
 pub use refusal::Refusal;
 pub use sentences::SentenceGenerator;
-pub use table::Filled;

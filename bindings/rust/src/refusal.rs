@@ -1,8 +1,9 @@
 use std::error::Error;
 use std::fmt;
 
-/// Why a call was refused. There is one for each refusal number of document 01.
+/// Why a call was refused. There is one for each refusal number of document 01; others may come.
 #[derive(Clone, Copy, Debug, Eq, Hash, PartialEq)]
+#[non_exhaustive]
 pub enum Refusal {
     /// R, T, P or N is outside its limits.
     Sizes = 1,
@@ -30,7 +31,8 @@ pub enum Refusal {
     NoSentence = 12,
     /// The rule has a sentence, but none costs 65535 or less.
     Dear = 13,
-    /// The rule's first choices lead back to a rule that is being replaced.
+    /// The first choice, the lowest-numbered of the cheapest productions, of the rule or of one that it comes to leads
+    /// back to that rule itself. There is a sentence as cheap by another choice.
     Circular = 14,
     /// The sentence is longer than 65535 tokens, or than the room for it.
     Room = 15,
@@ -48,7 +50,7 @@ use Refusal::*;
 
 impl Refusal {
     /// All of them, by rising number.
-    pub const ALL: [Refusal; 19] = [
+    pub const ALL: &'static [Refusal] = &[
         Sizes,
         Starts,
         Owner,
@@ -80,8 +82,8 @@ impl Refusal {
         if number == 0 {
             return Ok(());
         }
-        let refusal = Refusal::ALL.into_iter().find(|refusal| refusal.number() == number);
-        Err(refusal.expect("the library refuses by document 01's numbers"))
+        let refusal = Refusal::ALL.iter().find(|refusal| refusal.number() == number);
+        Err(*refusal.expect("the library refuses by document 01's numbers"))
     }
 
     /// What is wrong, for a person.
@@ -100,7 +102,10 @@ impl Refusal {
             ProductionNumber => "the grammar has no production with this number",
             NoSentence => "the rule has no sentence: it never comes to tokens alone",
             Dear => "every sentence of the rule costs more than 65535",
-            Circular => "the rule's cheapest choice leads back to itself, so it gives no sentence",
+            Circular => {
+                "the first choice, the lowest-numbered cheapest production, of the rule or of one that it comes to \
+                 leads back to that rule itself"
+            }
             Room => "the sentence is longer than 65535 tokens or than the room for it",
             FileLength => "the file is empty, is not made of whole blocks of 512 bytes, or has more than 98",
             BlockCheck => "a block of the file is damaged: its check does not fit its bytes",

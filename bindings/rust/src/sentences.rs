@@ -15,20 +15,34 @@ impl<'g> SentenceGenerator<'g> {
         SentenceGenerator { grammar }
     }
 
-    /// The cost of the rule's cheapest sentence. Refusals 9, 12 and 13. For all rules at once take
-    /// [`Grammar::costs`].
+    /// The cost of the rule's cheapest sentence. For all rules at once take [`Grammar::costs`].
+    ///
+    /// # Errors
+    ///
+    /// Refusal 9 for a rule that the grammar does not have, 12 if the rule has no sentence, 13 if none costs 65535 or
+    /// less.
     pub fn min_sentence_cost(&self, ridx: RIdx) -> Result<u16, Refusal> {
         let (mut productive, mut cost) = (self.grammar.rule_marks(), self.grammar.numbers());
         let least = sys::min_sentence_cost(self.grammar.flat(), ridx.0, &mut productive, &mut cost).number()?;
         Ok(u16::try_from(least).expect("a cost that is given is at most 65535"))
     }
 
-    /// The rule's cheapest sentence, each rule replaced by its first choice. Refusals 9 and 12 to 15.
+    /// The rule's cheapest sentence, each rule replaced by its first choice: the lowest-numbered of its cheapest
+    /// productions.
+    ///
+    /// # Errors
+    ///
+    /// As [`min_sentence_cost`](Self::min_sentence_cost); 14 if the choice is circular ([`Refusal::Circular`]), 15 if
+    /// the sentence has more than 65535 tokens.
     pub fn min_sentence(&self, ridx: RIdx) -> Result<Vec<TIdx>, Refusal> {
         self.min_sentence_in(ridx, LONGEST)
     }
 
-    /// The same, refused by 15 where it has more than `room` tokens.
+    /// The same, where it has at most `room` tokens.
+    ///
+    /// # Errors
+    ///
+    /// As [`min_sentence`](Self::min_sentence), and 15 if the sentence has more than `room` tokens.
     pub fn min_sentence_in(&self, ridx: RIdx, room: usize) -> Result<Vec<TIdx>, Refusal> {
         let mut productive = self.grammar.rule_marks();
         let (mut cost, mut lengths) = (self.grammar.numbers(), self.grammar.numbers());

@@ -1,6 +1,10 @@
 //! The exported calls of bindings/include/boltmarrow.h, as safe functions on slices. What the header asks of a caller
 //! holds for every slice: its pointer is neither null nor unaligned, also for length 0, it has as many elements as its
-//! length says, and one that is written overlaps no other.
+//! length says, and one that is written overlaps no other. The numbers that have types of their own in the header are
+//! `u16` here, which are passed the same way; the crate's own functions take `RIdx`, `PIdx` and `TIdx`.
+//!
+//! Three calls are for tests alone, since the crate reads a production or a mark itself: src/tests.rs holds what it reads
+//! to what they answer.
 #![allow(unsafe_code)]
 
 use crate::Refusal;
@@ -23,6 +27,7 @@ pub(crate) struct Answer {
 }
 
 /// `boltmarrow_stretch`
+#[cfg(test)]
 #[repr(C)]
 pub(crate) struct Stretch {
     refusal: u32,
@@ -52,6 +57,7 @@ impl Answer {
     }
 }
 
+#[cfg(test)]
 impl Stretch {
     /// Where in the symbol list the production stands.
     pub(crate) fn range(self) -> Result<std::ops::Range<usize>, Refusal> {
@@ -69,17 +75,17 @@ impl Counts {
 /// Declares each call and its safe function. After the grammar the header's parameters come in four groups, each of
 /// which may be empty: numbers; lists that are written; lists that are read; numbers.
 macro_rules! exports {
-    ($($call:ident = $name:ident(
+    ($($(#[$only:meta])? $call:ident = $name:ident(
         $($before:ident)*; $($out:ident: $o:ty),*; $($list:ident: $l:ty),*; $($after:ident)*
     ) -> $answer:ty;)*) => {
         extern "C" {
-            $(fn $call(
+            $($(#[$only])? fn $call(
                 rules: u16, owners: *const u16, _: usize, starts: *const u16, _: usize,
                 symbols: *const u16, _: usize, costs: *const u8, _: usize,
                 $($before: u16,)* $($out: *mut $o, _: usize,)* $($list: *const $l, _: usize,)* $($after: u16,)*
             ) -> $answer;)*
         }
-        $(pub(crate) fn $name(
+        $($(#[$only])? pub(crate) fn $name(
             g: Flat, $($before: u16,)* $($out: &mut [$o],)* $($list: &[$l],)* $($after: u16,)*
         ) -> $answer {
             // Safe: see the head of this file.
@@ -96,8 +102,11 @@ macro_rules! exports {
 
 exports! {
     boltmarrow_check = check(;;;) -> Answer;
+    #[cfg(test)]
     boltmarrow_production = production(prod;;;) -> Stretch;
+    #[cfg(test)]
     boltmarrow_mark = mark(;; table: u32; rule token) -> Answer;
+    #[cfg(test)]
     boltmarrow_rule_mark = rule_mark(;; table: u32; rule) -> Answer;
     boltmarrow_first_clear = first_clear(; first: u32, empty: u32;;) -> Answer;
     boltmarrow_first_visit = first_visit(prod; first: u32, empty: u32;;) -> Answer;

@@ -1,5 +1,5 @@
 -- A refusal is told apart from any answer: an exported call's refusal is 0 exactly where the library call answered.
-use mathlib.Core.Bool.{Bool, true, false}
+use mathlib.Core.Bool.{Bool, true, false, cond}
 use mathlib.Core.List.{List, [], _∷_}
 use mathlib.Core.Logic.{inl, inr}
 use mathlib.Core.Path.{_≡_, refl, sym, subst}
@@ -50,8 +50,8 @@ call-numbered (refused n) h k x = refusing n (x .refuses n refl) h
 pub leaves-numbered : {M : Type 0} {Left : M → Type 0} {s : Outcome (Unit {0})} {after : M} → Leaves Left s after → Numbered s
 leaves-numbered x = answered tt (x .done)
 
-pub visits-numbered : {M : Type 0} {Became : M → Type 0} {before after : M} {s : Outcome Bool} → Visits Became before s after → Numbered s
-visits-numbered x = answered (x .changed) (x .answer)
+pub visits-numbered : {M : Type 0} {Became : M → Type 0} {before after : M} {s : Outcome ℕ} → Visits Became before s after → Numbered s
+visits-numbered x = answered (cond (x .changed) 1 0) (x .answer)
 
 pub path-numbered : {g : Flat} {a b : ℕ} {s : Outcome Bool} {u : Unit {0}} → Answers g a b s u → Numbered s
 path-numbered x = answered (x .answer) (x .told)

@@ -39,7 +39,7 @@ abbrev pub doneValue : Outcome (Unit {0}) → Outcome ℕ
 doneValue (answers u) = answers 0
 doneValue (refused n) = refused n
 
--- 1 or 0 for yes or no and for changed or same
+-- 1 or 0 for yes or no
 abbrev pub testValue : Outcome Bool → Outcome ℕ
 testValue (answers true) = answers 1
 testValue (answers false) = answers 0
@@ -53,7 +53,7 @@ abbrev pub askedAnswer : Asked → Answer
 askedAnswer a = answerOf (testValue (askedIs a))
 
 abbrev pub visitedAnswer : Visited → Answer
-visitedAnswer v = answerOf (testValue (visitedIs v))
+visitedAnswer v = answerOf (visitedIs v)
 
 abbrev pub filledAnswer : Filled → Answer
 filledAnswer f = answerOf (doneValue (filledIs f))

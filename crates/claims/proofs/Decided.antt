@@ -2,6 +2,7 @@
 use mathlib.Core.Bool.{Bool, true, false, not, _&&_, false≢true, true≢false}
 use mathlib.Core.List.{List, [], _∷_, List·Memᴰ, List·Memᴰ·head, List·Memᴰ·tail, List·Memᴰ·cases-cons, List·Memᴰ·not-nil}
 use mathlib.Core.Logic.{inl, inr, _↔_}
+use mathlib.Core.Option.{Option, none, some}
 use mathlib.Core.Path.{_≡_, refl, sym, ap, ap₂, _∙_, subst}
 use Prim.Native.Nat.{ℕ, zero, suc, _*_, _≤_, _<_}
 use native.Mathlib.Nat.{eq-or-lt-of-le, le-of-suc-le-suc, not-suc-le-zero}
@@ -15,8 +16,10 @@ use Rattle.theory.specs.Grammar.{tok, rul, Form, Grammar}
 use Rattle.theory.specs.Levels.{Chosen, within}
 use Rattle.theory.specs.Search.{Chain, one, link}
 use Rattle.theory.specs.Sentences.{Grounded, Expands}
+use Rattle.theory.specs.Rounds.{run}
+use Rattle.theory.specs.Visits.{firstVisit, firstCleared}
 use Rattle.theory.specs.Tables.{Proper, FirstExact, FollowExact, ProductiveExact, CostExact}
-use Rattle.theory.proofs.Bools.{and-split, or-split, or-left, or-right}
+use Rattle.theory.proofs.Bools.{and-split, or-split, or-left, or-right, same, same-is}
 use Rattle.theory.proofs.Choices.{choices-chosen}
 use Rattle.theory.proofs.Cost.{costs-one}
 use Rattle.theory.proofs.CostRounds.{cost-any-order}
@@ -26,19 +29,19 @@ use Rattle.theory.proofs.Levels.{grounded-levels, within-expands}
 use Rattle.theory.proofs.Paths.{Uses, path-chain}
 use Rattle.theory.proofs.Productive.{productive-any-order}
 use Rattle.theory.proofs.Rounds.{upto, upto-round, all-rounds, settled-exact}
+use Rattle.source.specs.Costs.{start}
+use Rattle.source.specs.Sentence as Sentence
+use Rattle.source.proofs.Running.{costs-return, stuck-never, sentence-return}
 use Rattle.grammar.specs.Flat.{Flat, denoted, price}
 use Rattle.grammar.specs.Outcome.{Outcome, answers, refused}
 use Rattle.grammar.specs.Production.{checkOf}
+use Rattle.grammar.specs.Well.{WellFormed}
 use Rattle.grammar.proofs.Denoted.{proper}
 use Rattle.grammar.proofs.Well.{well}
-use Rattle.claims.specs.Claims.{Claim, firstIs, followIs, marksAre, costIs, noSentence, circular, sentenceIs, path, noPath, Means, AllMean}
-use Rattle.claims.proofs.Tests.{isAnswer, many, firstFilled, followFilled, productiveFilled, costFilled, chosen, holds, sameList, same, agree, within-form, uses, leads, unused, grammarOf, looked, test, tests}
+use Rattle.claims.specs.Claims.{Claim, firstIs, followIs, marksAre, costIs, noSentence, circular, sentenceIs, path, noPath, sourceNever, sourceGives, grammarOf, Says, Means, AllMean}
+use Rattle.claims.proofs.Tests.{isAnswer, many, firstFilled, followFilled, productiveFilled, costFilled, chosen, holds, sameList, agree, within-form, uses, leads, unused, never, costsGiven, sentenceGiven, so, looked, test, tests}
 
 -- lookups
-same-is : (a b : Bool) → same a b ≡ true → a ≡ b
-same-is true b e = sym e
-same-is false b e = sym (not-true b e)
-
 agree-at : (n : ℕ) (f : ℕ → Bool) (ts : List ℕ) → agree n f ts ≡ true → (t : ℕ) → t < n → f t ≡ holds t ts
 agree-at zero f ts e t lt = absurd (not-suc-le-zero lt)
 agree-at (suc n) f ts e t lt =
@@ -132,32 +135,54 @@ module _ (d : Grammar) (ok : Proper d) where
   picks : (k : ℕ → ℕ) → Chosen d k (costFilled d k) (chosen d k)
   picks k = choices-chosen d k (costFilled d k)
 
-fine : (g : Flat) → isAnswer (checkOf g) ≡ true → Proper (denoted g)
+fine : (g : Flat) → isAnswer (checkOf g) ≡ true → WellFormed g
 fine g e = go (checkOf g) refl e
   where
-    go : (o : Outcome (Unit {0})) → checkOf g ≡ o → isAnswer o ≡ true → Proper (denoted g)
-    go (answers tt) q k = proper g (well g q)
+    go : (o : Outcome (Unit {0})) → checkOf g ≡ o → isAnswer o ≡ true → WellFormed g
+    go (answers tt) q k = well g q
     go (refused n) q k = absurd (false≢true k)
 
-means : (c : Claim) → Proper (denoted (grammarOf c)) → looked c ≡ true → Means c
-means (firstIs g r ts) ok e = λ t l. set-is _ t ts (first-right (denoted g) ok .first r t) (agree-at (length (g .costs)) _ ts e t l)
-means (followIs g mode r ts) ok e = λ t l. set-is _ t ts (follow-right (denoted g) ok mode r t) (agree-at (length (g .costs)) _ ts e t l)
-means (marksAre g v r ts) ok e = λ t l. set-is _ t ts ((λ k. k), λ k. k) (agree-at (length (g .costs)) _ ts e t l)
-means (costIs g r n) ok e = subst (λ z. Cost (denoted g) (price g) r z) (eqb-true _ n e) (cost-right (denoted g) ok (price g) r)
-means (noSentence g r) ok e = λ h. true≢false (sym (productive-right (denoted g) ok r .0 h) ∙ not-true _ e)
-means (circular g r) ok e = λ c x.
-    let s = and-split (leb (costFilled (denoted g) (price g) r) 65535) _ e in
-    subst (λ z. (z r ≤ 65535) × (Grounded (denoted g) (price g) z (rul r ∷ []) → ⊥)) (costs-one (denoted g) (price g) _ c (cost-right (denoted g) ok (price g)) x)
-    (leb-true _ 65535 (s .0), λ y. true≢false (sym (grounded-levels (denoted g) (price g) (costFilled (denoted g) (price g)) ok (chosen (denoted g) (price g)) (picks (denoted g) ok (price g)) r .0 y) ∙ not-true _ (s .1)))
-means (sentenceIs g r w) ok e = λ c x.
-    let s = and-split (within (denoted g) (chosen (denoted g) (price g)) (g .rules) r) _ e in
-    subst (λ z. Expands (denoted g) (price g) z (rul r ∷ []) w) (costs-one (denoted g) (price g) _ c (cost-right (denoted g) ok (price g)) x)
-    (subst (λ z. Expands (denoted g) (price g) (costFilled (denoted g) (price g)) (rul r ∷ []) z) (list-same _ w (s .1)) (within-expands (denoted g) (price g) (costFilled (denoted g) (price g)) ok (chosen (denoted g) (price g)) (picks (denoted g) ok (price g)) (g .rules) r (s .0)))
-means (path g a by b) ok e = path-chain .1 (leads-is (denoted g) a by b e)
-means (noPath g a b) ok e = λ p. unused-chain (denoted g) b e (path-chain .0 p)
+-- what a run came to
+so-some : {A : Type 0} (x : Option A) (f : A → Bool) → so x f ≡ true → (a : A) × (x ≡ some a) × (f a ≡ true)
+so-some none f e = absurd (false≢true e)
+so-some (some a) f e = (a, refl, e)
+
+says : (c : Claim) → Proper (denoted (grammarOf c)) → looked c ≡ true → Says c
+says (firstIs g r ts) ok e = λ t l. set-is _ t ts (first-right (denoted g) ok .first r t) (agree-at (length (g .costs)) _ ts e t l)
+says (followIs g mode r ts) ok e = λ t l. set-is _ t ts (follow-right (denoted g) ok mode r t) (agree-at (length (g .costs)) _ ts e t l)
+says (marksAre g v r ts b) ok e =
+    let s = and-split (agree (length (g .costs)) (λ t. run (firstVisit (denoted g)) v firstCleared .first r t) ts) _ e in
+    ((λ t l. set-is _ t ts ((λ k. k), λ k. k) (agree-at (length (g .costs)) _ ts (s .0) t l)), same-is _ b (s .1))
+says (costIs g r n) ok e = subst (λ z. Cost (denoted g) (price g) r z) (eqb-true _ n e) (cost-right (denoted g) ok (price g) r)
+says (noSentence g r) ok e = λ h. true≢false (sym (productive-right (denoted g) ok r .0 h) ∙ not-true _ e)
+says (circular g r) ok e =
+    let s = and-split (leb (costFilled (denoted g) (price g) r) 65535) _ e in (
+      costFilled (denoted g) (price g),
+      cost-right (denoted g) ok (price g),
+      leb-true _ 65535 (s .0),
+      λ y. true≢false (sym (grounded-levels (denoted g) (price g) (costFilled (denoted g) (price g)) ok (chosen (denoted g) (price g)) (picks (denoted g) ok (price g)) r .0 y) ∙ not-true _ (s .1)),
+    )
+says (sentenceIs g r w) ok e =
+    let s = and-split (within (denoted g) (chosen (denoted g) (price g)) (g .rules) r) _ e in (
+      costFilled (denoted g) (price g),
+      cost-right (denoted g) ok (price g),
+      subst (λ z. Expands (denoted g) (price g) (costFilled (denoted g) (price g)) (rul r ∷ []) z) (list-same _ w (s .1)) (within-expands (denoted g) (price g) (costFilled (denoted g) (price g)) ok (chosen (denoted g) (price g)) (picks (denoted g) ok (price g)) (g .rules) r (s .0)),
+    )
+says (path g a by b) ok e = path-chain .1 (leads-is (denoted g) a by b e)
+says (noPath g a b) ok e = λ p. unused-chain (denoted g) b e (path-chain .0 p)
+says (sourceNever g) ok e = λ c x. stuck-never (denoted g) (price g) 32 start (so-some (never g) _ e .1) x
+says (sourceGives g r n w) ok e =
+    let c = so-some (costsGiven g) _ e in
+    let s = and-split (eqb (c .0 r) n) _ (c .2) in
+    let v = so-some (sentenceGiven g (c .0) r) _ (s .1) in
+    let x = costs-return (denoted g) (price g) 32 start (c .1) in
+    (c .0, x, eqb-true _ n (s .0), subst (λ z. Sentence.Returns (denoted g) (price g) (c .0) r z) (list-same _ w (v .2)) (sentence-return (denoted g) (price g) true (c .0) (λ y. x) 32 r (v .1)))
 
 pub decided : (c : Claim) → test c ≡ true → Means c
-decided c e = let s = and-split (isAnswer (checkOf (grammarOf c))) _ e in means c (fine (grammarOf c) (s .0)) (s .1)
+decided c e =
+    let s = and-split (isAnswer (checkOf (grammarOf c))) _ e in
+    let w = fine (grammarOf c) (s .0) in
+    (w, says c (proper (grammarOf c) w) (s .1))
 
 -- one lemma for all claims of a list
 pub all-decided : (cs : List Claim) → tests cs ≡ true → AllMean cs

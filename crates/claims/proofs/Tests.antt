@@ -1,6 +1,7 @@
 -- The test of a claim: tables filled by enough rounds, and looked up.
 use mathlib.Core.Bool.{Bool, true, false, not, _&&_, _||_}
 use mathlib.Core.List.{List, [], _∷_}
+use mathlib.Core.Option.{Option, none, some}
 use Prim.Native.Nat.{ℕ, zero, suc, _*_}
 use lib.Dec.{eqb, leb}
 use lib.ListN.{length, replicate}
@@ -9,11 +10,14 @@ use Rattle.theory.specs.Grammar.{tok, rul, Form, Grammar}
 use Rattle.theory.specs.Levels.{Choices, choicesBelow, within, expanded}
 use Rattle.theory.specs.Rounds.{run, rounds}
 use Rattle.theory.specs.Visits.{Table, Row, Costs, Marks, firstVisit, firstCleared, followVisit, followCleared, productiveVisit, productiveCleared, costVisit, costCleared}
+use Rattle.theory.proofs.Bools.{same}
 use Rattle.theory.proofs.Rounds.{upto}
+use Rattle.source.specs.Costs.{start}
+use Rattle.source.proofs.Running.{stuckIn, costsIn, sentenceIn}
 use Rattle.grammar.specs.Flat.{Flat, denoted, price}
 use Rattle.grammar.specs.Outcome.{Outcome, answers, refused}
 use Rattle.grammar.specs.Production.{checkOf}
-use Rattle.claims.specs.Claims.{Claim, firstIs, followIs, marksAre, costIs, noSentence, circular, sentenceIs, path, noPath}
+use Rattle.claims.specs.Claims.{Claim, firstIs, followIs, marksAre, costIs, noSentence, circular, sentenceIs, path, noPath, sourceNever, sourceGives, grammarOf}
 
 abbrev pub isAnswer : {A : Type 0} → Outcome A → Bool
 isAnswer (answers x) = true
@@ -49,10 +53,6 @@ sameList [] (y ∷ ys) = false
 sameList (x ∷ xs) [] = false
 sameList (x ∷ xs) (y ∷ ys) = eqb x y && sameList xs ys
 
-abbrev pub same : Bool → Bool → Bool
-same true b = b
-same false b = not b
-
 -- the same below n
 abbrev pub agree : ℕ → (ℕ → Bool) → List ℕ → Bool
 agree zero f ts = true
@@ -77,27 +77,33 @@ abbrev pub unused : Grammar → ℕ → (b : ℕ) → Bool
 unused d zero b = true
 unused d (suc p) b = not (within-form b (d .body p)) && unused d p b
 
-abbrev pub grammarOf : Claim → Flat
-grammarOf (firstIs g r ts) = g
-grammarOf (followIs g mode r ts) = g
-grammarOf (marksAre g v r ts) = g
-grammarOf (costIs g r n) = g
-grammarOf (noSentence g r) = g
-grammarOf (circular g r) = g
-grammarOf (sentenceIs g r w) = g
-grammarOf (path g a by b) = g
-grammarOf (noPath g a b) = g
+-- what the source comes to in at most 32 turns: no end, costs, a sentence
+abbrev pub never : Flat → Option (Unit {0})
+never g = stuckIn (denoted g) (price g) 32 start
+
+abbrev pub costsGiven : Flat → Option Costs
+costsGiven g = costsIn (denoted g) (price g) 32 start
+
+abbrev pub sentenceGiven : Flat → Costs → ℕ → Option (List ℕ)
+sentenceGiven g c r = sentenceIn (denoted g) (price g) true c 32 r
+
+-- it came to something, and this passes
+abbrev pub so : {A : Type 0} → Option A → (A → Bool) → Bool
+so none f = false
+so (some a) f = f a
 
 abbrev pub looked : Claim → Bool
 looked (firstIs g r ts) = agree (length (g .costs)) (λ t. firstFilled (denoted g) .first r t) ts
 looked (followIs g mode r ts) = agree (length (g .costs)) (λ t. followFilled (denoted g) mode r t) ts
-looked (marksAre g v r ts) = agree (length (g .costs)) (λ t. run (firstVisit (denoted g)) v firstCleared .first r t) ts
+looked (marksAre g v r ts e) = agree (length (g .costs)) (λ t. run (firstVisit (denoted g)) v firstCleared .first r t) ts && same (run (firstVisit (denoted g)) v firstCleared .empty r) e
 looked (costIs g r n) = eqb (costFilled (denoted g) (price g) r) n
 looked (noSentence g r) = not (productiveFilled (denoted g) r)
 looked (circular g r) = leb (costFilled (denoted g) (price g) r) 65535 && not (within (denoted g) (chosen (denoted g) (price g)) (g .rules) r)
 looked (sentenceIs g r w) = within (denoted g) (chosen (denoted g) (price g)) (g .rules) r && sameList (expanded (denoted g) (chosen (denoted g) (price g)) (g .rules) r) w
 looked (path g a by b) = leads (denoted g) a by b
 looked (noPath g a b) = unused (denoted g) (denoted g .prods) b
+looked (sourceNever g) = so (never g) (λ u. true)
+looked (sourceGives g r n w) = so (costsGiven g) (λ c. eqb (c r) n && so (sentenceGiven g c r) (λ v. sameList v w))
 
 -- the grammar is well-formed, and what its tables hold is what is claimed
 abbrev pub test : Claim → Bool

@@ -1,5 +1,5 @@
 -- Claims about grammars, and what each means by the definitions.
-use mathlib.Core.Bool.{true}
+use mathlib.Core.Bool.{Bool, true, false}
 use mathlib.Core.List.{List, [], _∷_, List·Memᴰ}
 use mathlib.Core.Logic.{_↔_}
 use mathlib.Core.Path.{_≡_}
@@ -12,40 +12,67 @@ use Rattle.theory.specs.Rounds.{run}
 use Rattle.theory.specs.Sentences.{Grounded, Expands}
 use Rattle.theory.specs.Tables.{CostExact}
 use Rattle.theory.specs.Visits.{Costs, firstVisit, firstCleared}
+use Rattle.source.specs.Costs.{start, Returns}
+use Rattle.source.specs.Sentence as Sentence
 use Rattle.grammar.specs.Flat.{Flat, denoted, price}
+use Rattle.grammar.specs.Well.{WellFormed}
 use Rattle.claims.specs.Grammars.{g1, g2, g3, g4, g6}
 
 -- a set is given by its tokens; `by` names the rules between, as a hint to the test
 pub data Claim : Type 0 where
   firstIs : Flat → (r : ℕ) → (tokens : List ℕ) → Claim
   followIs : Flat → Mode → (r : ℕ) → (tokens : List ℕ) → Claim
-  marksAre : Flat → (visits : List ℕ) → (r : ℕ) → (tokens : List ℕ) → Claim
+  marksAre : Flat → (visits : List ℕ) → (r : ℕ) → (tokens : List ℕ) → (empty : Bool) → Claim
   costIs : Flat → (r n : ℕ) → Claim
   noSentence : Flat → (r : ℕ) → Claim
   circular : Flat → (r : ℕ) → Claim
   sentenceIs : Flat → (r : ℕ) → (w : List ℕ) → Claim
   path : Flat → (a : ℕ) → (by : List ℕ) → (b : ℕ) → Claim
   noPath : Flat → (a b : ℕ) → Claim
+  sourceNever : Flat → Claim
+  sourceGives : Flat → (r n : ℕ) → (w : List ℕ) → Claim
 
--- what each means
-abbrev pub Means : Claim → Type 0
+-- the grammar that a claim speaks of
+abbrev pub grammarOf : Claim → Flat
+grammarOf (firstIs g r ts) = g
+grammarOf (followIs g mode r ts) = g
+grammarOf (marksAre g v r ts e) = g
+grammarOf (costIs g r n) = g
+grammarOf (noSentence g r) = g
+grammarOf (circular g r) = g
+grammarOf (sentenceIs g r w) = g
+grammarOf (path g a by b) = g
+grammarOf (noPath g a b) = g
+grammarOf (sourceNever g) = g
+grammarOf (sourceGives g r n w) = g
+
+-- what each says of its grammar
+abbrev pub Says : Claim → Type 0
 -- FIRST(r) is the set
-Means (firstIs g r ts) = (t : ℕ) → t < length (g .costs) → First (denoted g) r t ↔ List·Memᴰ t ts
+Says (firstIs g r ts) = (t : ℕ) → t < length (g .costs) → First (denoted g) r t ↔ List·Memᴰ t ts
 -- FOLLOW(r) of the mode is the set
-Means (followIs g mode r ts) = (t : ℕ) → t < length (g .costs) → Follow (denoted g) mode r t ↔ List·Memᴰ t ts
--- after these FIRST visits from cleared tables r has these marks
-Means (marksAre g v r ts) = (t : ℕ) → t < length (g .costs) → (run (firstVisit (denoted g)) v firstCleared .first r t ≡ true) ↔ List·Memᴰ t ts
+Says (followIs g mode r ts) = (t : ℕ) → t < length (g .costs) → Follow (denoted g) mode r t ↔ List·Memᴰ t ts
+-- after these FIRST visits from cleared tables r has these FIRST marks, and this EMPTY mark
+Says (marksAre g v r ts e) = ((t : ℕ) → t < length (g .costs) → (run (firstVisit (denoted g)) v firstCleared .first r t ≡ true) ↔ List·Memᴰ t ts) × (run (firstVisit (denoted g)) v firstCleared .empty r ≡ e)
 -- COST(r) is n
-Means (costIs g r n) = Cost (denoted g) (price g) r n
+Says (costIs g r n) = Cost (denoted g) (price g) r n
 -- r has no sentence: it gets 12
-Means (noSentence g r) = Productive (denoted g) r → ⊥
--- r has a cost and is not grounded: it gets 14
-Means (circular g r) = (c : Costs) → CostExact (denoted g) (price g) c → (c r ≤ 65535) × (Grounded (denoted g) (price g) c (rul r ∷ []) → ⊥)
--- r's sentence is w
-Means (sentenceIs g r w) = (c : Costs) → CostExact (denoted g) (price g) c → Expands (denoted g) (price g) c (rul r ∷ []) w
+Says (noSentence g r) = Productive (denoted g) r → ⊥
+-- r has a cost and, with the COST table, is not grounded: it gets 14
+Says (circular g r) = (c : Costs) × CostExact (denoted g) (price g) c × (c r ≤ 65535) × (Grounded (denoted g) (price g) c (rul r ∷ []) → ⊥)
+-- with the COST table r's sentence is w
+Says (sentenceIs g r w) = (c : Costs) × CostExact (denoted g) (price g) c × Expands (denoted g) (price g) c (rul r ∷ []) w
 -- a path from a to b, and none
-Means (path g a by b) = Path (denoted g) a b
-Means (noPath g a b) = Path (denoted g) a b → ⊥
+Says (path g a by b) = Path (denoted g) a b
+Says (noPath g a b) = Path (denoted g) a b → ⊥
+-- the Rust's `rule_min_costs` never returns
+Says (sourceNever g) = (c : Costs) → Returns (denoted g) (price g) start c → ⊥
+-- the Rust's `rule_min_costs` returns, with n for r, and its `min_sentence` of r returns w
+Says (sourceGives g r n w) = (c : Costs) × Returns (denoted g) (price g) start c × (c r ≡ n) × Sentence.Returns (denoted g) (price g) c r w
+
+-- what each means: its grammar is well-formed, and what it says holds
+abbrev pub Means : Claim → Type 0
+Means c = WellFormed (grammarOf c) × Says c
 
 abbrev pub AllMean : List Claim → Type 0
 AllMean [] = Unit {0}
@@ -59,11 +86,12 @@ starred =
     ∷ followIs g1 crate 2 (0 ∷ [])
     ∷ costIs g1 1 1
     ∷ sentenceIs g1 0 (0 ∷ [])
-    ∷ marksAre g1 (5 ∷ 0 ∷ 1 ∷ 2 ∷ 3 ∷ 4 ∷ []) 1 []
-    ∷ marksAre g1 (5 ∷ 0 ∷ 1 ∷ 2 ∷ 3 ∷ 4 ∷ 5 ∷ 0 ∷ 1 ∷ 2 ∷ 3 ∷ 4 ∷ []) 1 (0 ∷ 2 ∷ [])
+    ∷ marksAre g1 (5 ∷ 0 ∷ 1 ∷ 2 ∷ 3 ∷ 4 ∷ []) 1 [] false
+    ∷ marksAre g1 (5 ∷ 0 ∷ 1 ∷ 2 ∷ 3 ∷ 4 ∷ 5 ∷ 0 ∷ 1 ∷ 2 ∷ 3 ∷ 4 ∷ []) 1 (0 ∷ 2 ∷ []) false
     ∷ followIs g2 crate 2 (1 ∷ [])
     ∷ followIs g2 corrected 2 (1 ∷ 2 ∷ [])
     ∷ costIs g3 1 1
+    ∷ sourceNever g3
     ∷ circular g3 1
     ∷ path g3 1 [] 1
     ∷ noPath g3 0 0
@@ -71,4 +99,9 @@ starred =
     ∷ noSentence g4 1
     ∷ costIs g6 1 1
     ∷ sentenceIs g6 1 (1 ∷ [])
+    ∷ sourceGives g6 1 1 (1 ∷ [])
     ∷ []
+
+-- what it says of G1's start beside them: the Rust gives 0 0
+abbrev pub repeats : List Claim
+repeats = sourceGives g1 0 1 (0 ∷ 0 ∷ []) ∷ []

@@ -81,3 +81,7 @@ module _ (g : Flat) (w : WellFormed g) where
 
   pub source-equal : (l : Lent) → Defined g l → {t : Marks} → Returns (denoted g) firstCleared t → marksOf (g .rules) (length (g .costs)) l ≡ t
   source-equal l d r = first-one (denoted g) _ _ (d .exact) (firsts-exact (denoted g) (proper g w) r)
+
+  -- the same of a call of fill, whatever was lent to it
+  pub fill-source : (first empty f e : List ℕ) (q : Filled) → fillDue g (lent first empty) ≡ answers tt → Fill g first empty q f e → {t : Marks} → Returns (denoted g) firstCleared t → marksOf (g .rules) (length (g .costs)) (lent f e) ≡ t
+  fill-source first empty f e q due v r = source-equal (lent f e) (v .does due .left) r

@@ -8,7 +8,8 @@ ghost use lib.ListN.{length, getD};
 ghost use Rattle.grammar.specs.Flat.{flat, at};
 ghost use Rattle.grammar.specs.Refusals.{falls, startsWrong, ownerOut, owns, ruleUnowned, symbolOut, symbolsOut, startCount, oneRule, startLong, startHeld, startWrong};
 ghost use Rattle.grammar.specs.Well.{Laid};
-ghost use Rattle.grammar.specs.Production.{checkedIs, lengthIs, checkOf, productionOf, orEmpty, lengthOf};
+ghost use Rattle.grammar.specs.Production.{checkedIs, lengthIs, checkOf, productionOf, lengthOf, Front, Produces};
+ghost use denote.Ref.{ptr};
 use crate::inner::sizes_out;
 use crate::inner::start_at;
 use crate::inner::wide;
@@ -224,6 +225,13 @@ pub fn check(rules: u16, owners: &[u16], starts: &[u16], symbols: &[u16], costs:
     Checked::Well
 }
 
+// The list's empty start.
+fn empty_start<'a>(symbols: &'a [u16]) -> &'a [u16]
+    ensures { λ r. ⌜ Front (ptr (symbols .entry)) (ptr r) (now r) ⌝ }
+{
+    &symbols[..0]
+}
+
 // Production `prod` as a part of the caller's own symbol list; its empty start where `production_len` refuses.
 pub fn production<'a>(
     rules: u16,
@@ -233,14 +241,14 @@ pub fn production<'a>(
     costs: &[u8],
     prod: PIdx,
 ) -> &'a [u16]
-    ensures { λ r. ⌜ now r ≡ orEmpty (productionOf (flat rules (now (owners .entry)) (now (starts .entry)) (now (symbols .entry)) (now (costs .entry))) (prod .0)) ⌝ }
+    ensures { λ r. ⌜ Produces (flat rules (now (owners .entry)) (now (starts .entry)) (now (symbols .entry)) (now (costs .entry))) (prod .0) (ptr (symbols .entry)) (ptr r) (now r) ⌝ }
 {
     let Checked::Well = check(rules, owners, starts, symbols, costs) else {
-        return &symbols[..0];
+        return empty_start(symbols);
     };
     let p = wide(prod.0);
     if owners.len() <= p {
-        return &symbols[..0];
+        return empty_start(symbols);
     }
     let a = start_at(starts, p);
     let e = start_at(starts, p + 1);

@@ -3,8 +3,10 @@
 //
 //     R T P N, P owners, P+1 starts, N symbols, T token costs, R numbers: what is asked of each rule
 //
-// where 1 asks for the rule's cost too, and 2 for its cost and its sentence. What is printed of them is held to the
-// answers that the Rust gave, in the file `stdout`; tools/replay.py made both files, and says how.
+// where 1 asks for the rule's cost too, 2 for its cost and its sentence, and 3 for its sentence alone, which the Rust
+// may give where its costs never return. What is printed of them is held to the answers that the Rust gave, in the file
+// `stdout`; tools/replay.py made both files, and says how.
+use grammar::PIdx;
 use grammar::RIdx;
 use grammar::TIdx;
 use tables::Asked;
@@ -180,7 +182,7 @@ fn say_cost(
     productive: &mut [u32],
     cost: &mut [u32],
 ) {
-    if asked < 1 {
+    if (asked < 1) | (2 < asked) {
         return;
     }
     match costs::min_sentence_cost(
@@ -355,6 +357,24 @@ fn say_rules(
     }
 }
 
+// A production's line: its number and its symbols, as the stretch of the list that `production` lends.
+fn say_prod(rules: u16, owners: &[u16], starts: &[u16], symbols: &[u16], costs: &[u8], prod: u16) {
+    say(b"prod ");
+    print(prod);
+    say(b",");
+    say_tokens(grammar::production(rules, owners, starts, symbols, costs, PIdx(prod)));
+    say(b"\n");
+}
+
+// A line for each production.
+fn say_prods(rules: u16, owners: &[u16], starts: &[u16], symbols: &[u16], costs: &[u8]) {
+    let mut i: usize = 0;
+    while i < owners.len() {
+        say_prod(rules, owners, starts, symbols, costs, narrow(i));
+        i += 1;
+    }
+}
+
 // Fills the tables, FOLLOW in the crate's mode, and prints a line for each rule.
 fn fill_and_say(
     rules: u16,
@@ -419,8 +439,10 @@ fn replay(owners: &[u16], starts: &[u16], symbols: &[u16], costs: &[u8], asked: 
     let mut productive = [0; 16];
     let mut cost = [0; 512];
     let mut lengths = [0; 512];
+    let r = narrow(n);
+    say_prods(r, owners, starts, symbols, costs);
     fill_and_say(
-        narrow(n),
+        r,
         owners,
         starts,
         symbols,

@@ -5,7 +5,7 @@ use std::fs;
 use std::path::{Path, PathBuf};
 
 use boltmarrow::{Grammar, Mode, Refusal};
-use boltmarrow_cfgrammar::{flatten, rule, token};
+use boltmarrow_cfgrammar::{flatten, prod, prod_of, rule, rule_of, token, token_of};
 use cfgrammar::yacc::{YaccGrammar, YaccKind, YaccOriginalActionKind};
 
 #[path = "../../../../tools/oracle/text.rs"]
@@ -52,6 +52,43 @@ fn wider_numbers_flatten_to_the_same() {
     assert_eq!(flatten(&wide, |_| 1), flatten(&yacc(text), |_| 1));
     assert_eq!(flatten(&wide, |_| 1).map(|flat| flat.into_tables().1), Ok(vec![1, 1, 0]));
     assert_eq!(rule(cfgrammar::RIdx(70000u32)), boltmarrow::RIdx(65535));
+    assert_eq!(token(cfgrammar::TIdx(65536u32)), boltmarrow::TIdx(65535));
+    assert_eq!(prod(cfgrammar::PIdx(65537u32)), boltmarrow::PIdx(65535));
+}
+
+/// As bindings/rust/README.md shows it.
+#[test]
+fn a_sentence_in_the_grammars_own_names() -> Result<(), Refusal> {
+    let names = "token digits\ntoken ,\ntoken unit\nrule Row\nrule Num\nrule Unit\nstart Row\n";
+    let prods = "prod Row rule:Num token:, rule:Num rule:Unit\nprod Num token:digits\nprod Unit token:unit";
+    let grm = yacc(&[names, prods].concat());
+    let flat = flatten(&grm, |_| 1)?;
+    let mut named = vec![];
+    for tidx in flat.sentence_generator().min_sentence(flat.start_rule_idx())? {
+        named.push(grm.token_name(token_of(&grm, tidx)?).unwrap_or("eof"));
+    }
+    assert_eq!(named, ["digits", ",", "digits", "unit"]);
+    Ok(())
+}
+
+/// Numbers of one byte: one that is not there is refused, and not cut to one that is.
+#[test]
+fn the_way_back_refuses_what_is_not_there() {
+    let text = "token a\ntoken b\nrule X\nstart X\nprod X token:a rule:X\nprod X token:b\nprod X";
+    let narrow = YaccGrammar::<u8>::new_with_storaget(KIND, text).expect("a text of the stand-in's form");
+    // 2 rules, 3 tokens with eof, 4 productions with the start's
+    for number in [2, 3, 256, 257, 65535] {
+        assert_eq!(rule_of(&narrow, boltmarrow::RIdx(number)), Err(Refusal::RuleNumber), "rule {number}");
+    }
+    for number in [3, 4, 256, 258, 65535] {
+        assert_eq!(token_of(&narrow, boltmarrow::TIdx(number)), Err(Refusal::TokenNumber), "token {number}");
+    }
+    for number in [4, 5, 256, 259, 65535] {
+        assert_eq!(prod_of(&narrow, boltmarrow::PIdx(number)), Err(Refusal::ProductionNumber), "production {number}");
+    }
+    assert_eq!(rule_of(&narrow, boltmarrow::RIdx(1)), Ok(cfgrammar::RIdx(1u8)));
+    assert_eq!(token_of(&narrow, boltmarrow::TIdx(2)), Ok(narrow.eof_token_idx()));
+    assert_eq!(prod_of(&narrow, boltmarrow::PIdx(3)), Ok(narrow.start_prod()));
 }
 
 /// So many rules, each of them nothing.
@@ -108,6 +145,34 @@ fn as_the_crate(flat: Grammar) -> (Grammar, YaccGrammar<u16>) {
     (Grammar::new(rules, new_owners, new_starts, new_symbols, costs).unwrap(), yacc(&text))
 }
 
+/// Each number goes there and back, and each production has the same owner, length and symbols either way.
+fn numbers_go_back(name: &str, flat: &Grammar, grm: &YaccGrammar<u16>) {
+    let back = |symbol| match symbol {
+        boltmarrow::Symbol::Rule(ridx) => cfgrammar::Symbol::Rule(rule_of(grm, ridx).unwrap()),
+        boltmarrow::Symbol::Token(tidx) => cfgrammar::Symbol::Token(token_of(grm, tidx).unwrap()),
+    };
+    for pidx in flat.iter_pidxs() {
+        let own = prod_of(grm, pidx).unwrap();
+        let symbols: Vec<_> = flat.prod(pidx).unwrap().map(back).collect();
+        assert_eq!(prod(own), pidx, "{name}");
+        assert_eq!(symbols, grm.prod(own), "{name}: {pidx:?}");
+        assert_eq!(flat.prod_len(pidx).map(usize::from), Ok(usize::from(grm.prod_len(own))), "{name}: {pidx:?}");
+        let owner = flat.prod_to_rule(pidx).and_then(|ridx| rule_of(grm, ridx));
+        assert_eq!(owner, Ok(grm.prod_to_rule(own)), "{name}: {pidx:?}");
+    }
+    for ridx in grm.iter_rules() {
+        assert_eq!(rule_of(grm, rule(ridx)), Ok(ridx), "{name}");
+        let prods: Vec<_> = flat.rule_to_prods(rule(ridx)).unwrap().iter().map(|&pidx| prod_of(grm, pidx)).collect();
+        assert_eq!(prods.into_iter().collect::<Result<Vec<_>, _>>().as_deref(), Ok(grm.rule_to_prods(ridx)), "{name}");
+    }
+    for tidx in grm.iter_tidxs() {
+        assert_eq!(token_of(grm, token(tidx)), Ok(tidx), "{name}");
+    }
+    assert_eq!(rule_of(grm, flat.rules_len()), Err(Refusal::RuleNumber), "{name}");
+    assert_eq!(token_of(grm, flat.tokens_len()), Err(Refusal::TokenNumber), "{name}");
+    assert_eq!(prod_of(grm, flat.prods_len()), Err(Refusal::ProductionNumber), "{name}");
+}
+
 fn marks_are_equal(name: &str, flat: &Grammar, grm: &YaccGrammar<u16>) {
     let (firsts, follows) = (flat.firsts(), flat.follows(Mode::Crate));
     let (own_firsts, own_follows) = (grm.firsts(), grm.follows());
@@ -146,6 +211,7 @@ fn examples_have_the_crates_own_answers() {
         let (renumbered, grm) = as_the_crate(example);
         let flat = flatten(&grm, |tidx| renumbered.token_cost(token(tidx)).unwrap()).unwrap();
         assert_eq!(flat, renumbered, "{name}");
+        numbers_go_back(&name, &flat, &grm);
         marks_are_equal(&name, &flat, &grm);
         paths_are_equal(&name, &flat, &grm);
         if !NO_COSTS.contains(&&name[..]) {

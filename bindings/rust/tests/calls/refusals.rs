@@ -3,7 +3,7 @@ use std::collections::HashSet;
 
 use boltmarrow::{Grammar, Mode, PIdx, RIdx, Refusal, TIdx};
 
-use crate::grammars::{built, g1, g1_tables, of, RULE};
+use crate::grammars::{built, g1, g1_tables, of, well, RULE};
 
 #[test]
 fn numbers_are_document_01s() {
@@ -16,6 +16,23 @@ fn each_has_a_sentence_of_its_own() {
     let sentences: HashSet<String> = Refusal::ALL.iter().map(|refusal| refusal.to_string()).collect();
     assert_eq!(sentences.len(), Refusal::ALL.len());
     assert_eq!(Refusal::RuleNumber.to_string(), "the grammar has no rule with this number (refusal 9)");
+}
+
+/// A rule that gets 14 has a sentence, and its cost is known.
+#[test]
+fn fourteen_speaks_of_the_choice() {
+    // S: A; A: A; A: a. A's first choice is A: A, so S comes to a rule that leads back to itself.
+    let grm = well(3, &[(0, &[RULE + 1]), (1, &[RULE + 2]), (2, &[RULE + 2]), (2, &[0])], &[1, 1]);
+    let sentences = grm.sentence_generator();
+    for ridx in grm.iter_rules() {
+        assert_eq!(grm.productive().is_set(ridx), Ok(true));
+        assert_eq!(sentences.min_sentence_cost(ridx), Ok(1));
+        assert_eq!(sentences.min_sentence(ridx), Err(Refusal::Circular));
+    }
+    let words =
+        "the first choice, the lowest-numbered cheapest production, of the rule or of one that it comes to leads \
+                 back to that rule itself (refusal 14)";
+    assert_eq!(Refusal::Circular.to_string(), words);
 }
 
 /// Why G1 with one change is refused.
@@ -85,7 +102,9 @@ fn numbers_that_are_not_there() {
     assert_eq!(grm.has_path(RIdx(0), RIdx(4)), rule);
     assert_eq!(grm.has_path(RIdx(4), RIdx(0)), rule);
     assert_eq!(grm.prod(PIdx(6)).err(), Some(production));
+    assert_eq!(grm.prod_len(PIdx(6)), Err(production));
     assert_eq!(grm.prod_to_rule(PIdx(6)), Err(production));
+    assert_eq!(grm.rule_to_prods(RIdx(4)), Err(Refusal::RuleNumber));
     assert_eq!(grm.token_cost(TIdx(4)), Err(Refusal::TokenNumber));
     assert_eq!(grm.first_table().visit(PIdx(6)), Err(production));
     assert_eq!(grm.follow_table(Mode::Crate).visit(PIdx(6)), Err(production));

@@ -1,7 +1,7 @@
 //! FIRST, EMPTY, FOLLOW, paths, PRODUCTIVE and COST.
-use boltmarrow::{Grammar, Mode, PIdx, RIdx, Symbol, TIdx};
+use boltmarrow::{Grammar, Mode, PIdx, RIdx, SIdx, Symbol, TIdx};
 
-use crate::grammars::{comma, g1, g2, g3, g4, g5, g5_either, g6};
+use crate::grammars::{comma, g1, g2, g3, g4, g5, g5_either, g6, well, RULE};
 
 fn numbers(tokens: impl Iterator<Item = TIdx>) -> Vec<u16> {
     tokens.map(|tidx| tidx.as_storaget()).collect()
@@ -110,8 +110,22 @@ fn a_grammar_tells_its_parts() {
     let body: Vec<Symbol> = grm.prod(PIdx(0)).unwrap().collect();
     assert_eq!(body, [Symbol::Rule(RIdx(2)), Symbol::Token(TIdx(0)), Symbol::Rule(RIdx(3))]);
     assert_eq!(grm.prod(PIdx(2)).unwrap().len(), 0);
+    let lengths = [3, 1, 0, 2, 0, 1].map(|len| Ok(SIdx(len)));
+    assert_eq!([0, 1, 2, 3, 4, 5].map(|p| grm.prod_len(PIdx(p))), lengths);
     assert_eq!(grm.prod_to_rule(PIdx(5)), Ok(RIdx(0)));
+    let prods: [&[PIdx]; 4] = [&[PIdx(5)], &[PIdx(0)], &[PIdx(1), PIdx(2)], &[PIdx(3), PIdx(4)]];
+    assert_eq!([0, 1, 2, 3].map(|r| grm.rule_to_prods(RIdx(r)).unwrap()), prods);
     assert_eq!(g5(1).token_cost(TIdx(0)), Ok(255));
     let given = crate::grammars::g1_tables();
     assert_eq!(grm.into_tables(), given);
+}
+
+#[test]
+fn a_rules_productions_may_stand_apart() {
+    // A: a; B: b; A: nothing; B: A; A: B
+    let [a, b] = [RULE + 1, RULE + 2];
+    let grm = well(3, &[(1, &[0]), (2, &[1]), (0, &[a]), (1, &[]), (2, &[a]), (1, &[b])], &[1, 1, 1]);
+    assert_eq!(grm.rule_to_prods(RIdx(0)).unwrap(), [PIdx(2)]);
+    assert_eq!(grm.rule_to_prods(RIdx(1)).unwrap(), [PIdx(0), PIdx(3), PIdx(5)]);
+    assert_eq!(grm.rule_to_prods(RIdx(2)).unwrap(), [PIdx(1), PIdx(4)]);
 }

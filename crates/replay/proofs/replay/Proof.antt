@@ -13,6 +13,9 @@ table-words-requires c κs = search needs
 narrow-requires : tie.Need-narrow-requires
 narrow-requires c κs = search needs
 
+say-prods-requires : tie.Need-say-prods-requires
+say-prods-requires c κs = search needs
+
 array-borrow-prefix-empty : tie.Need-array-borrow-prefix-empty
 array-borrow-prefix-empty c = search needs
 
@@ -62,6 +65,7 @@ replay-spec =
     row-words-requires
     table-words-requires
     narrow-requires
+    say-prods-requires
     array-borrow-prefix-empty
     slice-aggregate-fill-and-say
     array-borrow-prefix-first

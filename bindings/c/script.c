@@ -140,9 +140,9 @@ static void build_fences(void) {
     }
 }
 
-static void check_guards(const char *name) {
+static void check_guards(void) {
     for (int list = 0; list < LISTS; list++)
-        if (memcmp(lent[list].at - GUARD, guard, GUARD)) fail("bytes before a lent list were changed by", name);
+        if (memcmp(lent[list].at - GUARD, guard, GUARD)) fail("bytes before a lent list were changed", line);
 }
 
 static uint32_t item(int list, size_t i) {
@@ -373,34 +373,34 @@ static const struct step {
     {"count", 1, 1, 1, count_of},
 };
 
-static const struct step *step_of(const char *name) {
-    for (size_t i = 0; i < sizeof steps / sizeof *steps; i++)
-        if (strcmp(steps[i].name, name) == 0) return &steps[i];
-    fail("there is no such call", name);
+/* The step that the line names; what stands in its brackets comes next. */
+static const struct step *read_name(void) {
+    for (size_t i = 0; i < sizeof steps / sizeof *steps; i++) {
+        size_t len = strlen(steps[i].name);
+        if (strncmp(line, steps[i].name, len) || line[len] != '(') continue;
+        here = line + len + 1;
+        return &steps[i];
+    }
+    fail("there is no such call", line);
 }
 
-/* The name that a line begins with; what comes behind it is its end. */
-static const char *read_name(void) {
-    char *name = here;
-    while (*here == '_' || (*here >= 'a' && *here <= 'z')) here++;
-    need('(');
-    here[-1] = 0;
-    return name;
-}
-
-static void make_step(void) {
-    const struct step *step = step_of(read_name());
+static void read_given(void) {
     read_numbers(UINT16_MAX);
     need(')');
     need(0);
     for (size_t i = 0; i < count; i++) given[i] = (uint16_t)numbers[i];
     given_len = count;
-    if (given_len < step->least || given_len > step->most) fail("so many numbers are not for", step->name);
+}
+
+static void make_step(void) {
+    const struct step *step = read_name();
+    read_given();
+    if (given_len < step->least || given_len > step->most) fail("it takes other than so many numbers", line);
     if (step->answers) printf("=");
     step->make();
     end_run();
     if (step->answers) printf("\n");
-    check_guards(step->name);
+    check_guards();
 }
 
 /* The lists of a line, with a semicolon between two. */

@@ -4,7 +4,8 @@
  * must be the same. A script that is not in the form ends the program, with the line and the case on the error stream.
  *
  * Each list is lent with its exact length, between a guard, bytes that no call may change, and a fence, memory that may
- * not be touched: a write or a read past a list's end stops the program. So what is written is flushed before a call. */
+ * not be touched: a write or a read past a list's end stops the program. What was written until then is not lost, so it
+ * shows which call it was. */
 #include <stdio.h>
 #include <stdlib.h>
 #include <string.h>

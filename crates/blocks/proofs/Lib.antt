@@ -7,3 +7,4 @@ pub mod Order
 pub mod Exactly
 pub mod Entries
 pub mod G1
+pub mod Saying

@@ -35,15 +35,25 @@ over front list = front ++ drop (length front) list
 abbrev pub filled : Flat → Lists → Lists
 filled g m = lists (over (g .owners) (m .owners)) (over (g .starts) (m .starts)) (over (g .symbols) (m .symbols)) (over (g .costs) (m .costs))
 
--- the file reader's order is 20, 21, 22, 1, 23; lists not of the limits' lengths 7 before all others
-abbrev pub readDue : List ℕ → Lists → Outcome (Unit {0})
-readDue file m =
-    unless (listsWrong (length (m .owners)) (length (m .starts)) (length (m .symbols)) (length (m .costs))) 7
-    (unless (fileWrong (length file)) 20
+-- the file reader's order is 20, 21, 22, 1, 23; where none of them is due, it goes on
+abbrev pub unlessFile : {A : Type 0} → List ℕ → Outcome A → Outcome A
+unlessFile file x =
+    unless (fileWrong (length file)) 20
     (unless (checksDiffer file) 21
     (unless (numbersDiffer file) 22
     (unless (countsOut (countsOf file)) 1
-    (unless (blocksWrong file (countsOf file)) 23 (answers tt))))))
+    (unless (blocksWrong file (countsOf file)) 23 x))))
+
+abbrev pub fileDue : List ℕ → Outcome (Unit {0})
+fileDue file = unlessFile file (answers tt)
+
+-- lists not of the limits' lengths give 7 before all others
+abbrev pub readDue : List ℕ → Lists → Outcome (Unit {0})
+readDue file m = unless (listsWrong (length (m .owners)) (length (m .starts)) (length (m .symbols)) (length (m .costs))) 7 (fileDue file)
+
+-- then 2 to 6: what the reader says of a file, lent lists of the limits' lengths
+abbrev pub readOf : List ℕ → Outcome Counts
+readOf file = unlessFile file (unlessDue (grammarOf file (countsOf file)) (answers (countsOf file)))
 
 -- then it fills the lists, also when 2 to 6 follow, and answers the lowest of these due or R, T, P and N
 pub record Reads (file : List ℕ) (before : Lists) (said : Outcome Counts) (after : Lists) : Type 0 where

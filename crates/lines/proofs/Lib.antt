@@ -14,3 +14,4 @@ pub mod Saying
 pub mod Printing
 pub mod Report
 pub mod Reading
+pub mod Whole

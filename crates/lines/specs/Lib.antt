@@ -4,3 +4,4 @@ pub mod Append
 pub mod Lent
 pub mod Calls
 pub mod Says
+pub mod Report

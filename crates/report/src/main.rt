@@ -85,7 +85,7 @@ fn read_file(file: &mut [u8]) -> Got
     Got::Bytes(n)
 }
 
-// Appends the line that a call wrote to the front of `line`.
+// Appends the line that a call wrote to the front of `line`; a call that was refused wrote none.
 fn append(written: Written, line: &[u8], out: &mut [u8], at: usize) -> usize
     requires stands { ⌜ Stands written (now line) ⌝ }
     requires room { ⌜ Room (now out) at (lineIn written (now line)) ⌝ }
@@ -98,7 +98,7 @@ fn append(written: Written, line: &[u8], out: &mut [u8], at: usize) -> usize
     copy(&line[..end], out, at)
 }
 
-// Leaves what is printed for a file that is refused with `number` at the front of `out`.
+// Leaves what is printed for a file that is refused with `number` at the front of `out`, and answers its length.
 fn refusal(number: u16, out: &mut [u8]) -> usize
     requires { ⌜ reportRoom ≤ length (now out) ⌝ }
     ensures within { λ r. ⌜ r ≤ length (now (out .exit)) ⌝ }
@@ -109,6 +109,7 @@ fn refusal(number: u16, out: &mut [u8]) -> usize
     append(written, &line, out, 0)
 }
 
+// Leaves the heading at the front of `out`, and answers the place after it.
 fn heading(out: &mut [u8]) -> usize
     requires { ⌜ reportRoom ≤ length (now out) ⌝ }
     ensures { λ r. ⌜ Appended (now (out .entry)) 0 headingOf (now (out .exit)) r ⌝ }
@@ -235,7 +236,7 @@ fn lines_report(
     )
 }
 
-// Leaves mode 2 FOLLOW, FIRST and EMPTY in tables of their exact lengths.
+// Leaves mode 2 FOLLOW, FIRST and EMPTY in tables of their exact lengths. None of the refusals is due on these, so the `else` is not taken; nor is it in the next two.
 fn fill_sets(
     rules: u16,
     owners: &[u16],

@@ -1,6 +1,7 @@
 #!/usr/bin/env python3
-"""Holds the script of the program `calls` to calls.py: every answer, and every list that is shown; some two minutes.
-Run alone, or with the others of this folder: python3 -m unittest discover -s tools"""
+"""Holds the scripts of bindings/scripts to calls.py: every answer, and every list that is shown; some two minutes.
+bindings/scripts/README.md has their form. Run alone, or with the others of this folder:
+python3 -m unittest discover -s tools"""
 import itertools
 import pathlib
 import re
@@ -11,17 +12,19 @@ sys.dont_write_bytecode = True
 import calls
 import plain
 
-CRATE = pathlib.Path(__file__).resolve().parent.parent / "crates" / "calls"
+SCRIPTS = pathlib.Path(__file__).resolve().parent.parent / "bindings" / "scripts"
 STEPS = {"x": 0, "+": 1, "-": -1}
 SHORT, FRONT = 600, 16  # a list of that length is not shown whole, but its front
+OLD = 9999, 9999, 9999, 99  # what the lists are full of that a file is read into
+NAMED = 8  # the numbers of a longer front are not said, but their sum
 
 
 def numbers(text):
-    """The numbers of a list; 7x4, 7+4 and 7-4 are runs."""
+    """The numbers of a list; 7x4, 7+4, 7-4 and 7+4*2 are runs."""
     found = []
     for word in text.split():
-        first, kind, length = re.fullmatch(r"(\d+)(?:([x+-])(\d+))?", word).groups()
-        step = STEPS[kind or "x"]
+        first, kind, length, wide = re.fullmatch(r"(\d+)(?:([x+-])(\d+)(?:\*(\d+))?)?", word).groups()
+        step = STEPS[kind or "x"] * int(wide or 1)
         found += [int(first) + k * step for k in range(int(length or 1))]
     return found
 
@@ -32,6 +35,42 @@ def shown(found):
     return "".join(f" {each}x{length}" if length > 1 else f" {each}" for each, length in runs)
 
 
+def said(found):
+    """The same, without runs."""
+    return "".join(f" {each}" for each in found)
+
+
+def put(file, changes):
+    """Numbers of two bytes at these places."""
+    for at, number in zip(changes[::2], changes[1::2], strict=True):
+        assert at + 2 <= len(file)
+        file[at : at + 2] = number.to_bytes(2, "little")
+
+
+def file_of(g, length, *changes):
+    """The grammar's block file, of so many bytes, with numbers changed; the checks are right for them, but where such a
+    number is put over one."""
+    told = [g.rules, len(g.costs), len(g.owners), len(g.symbols), *g.owners, *g.starts, *g.symbols]
+    payload = b"".join(number.to_bytes(2, "little") for number in told) + bytes(g.costs)
+    file, whole = bytearray(), length // 512
+    for block in range(whole + 1):  # what is left behind the whole blocks has no number and no check
+        number = block if block < whole else 0
+        file += number.to_bytes(2, "little") + payload[508 * block : 508 * (block + 1)].ljust(508, b"\0") + b"\0\0"
+    file = file[:length]
+    put(file, changes)
+    for end in range(512, length + 1, 512):
+        file[end - 2 : end] = (sum(file[end - 512 : end - 2]) % 65536).to_bytes(2, "little")
+    put(file, changes)
+    return file
+
+
+def front(name, filled, old):
+    """Of a list that a file was read into: its front, up to the first number that is old, and whether the rest is."""
+    length = filled.index(old) if old in filled else len(filled)
+    told = f", sum {sum(filled[:length])}" if length > NAMED else ":" + said(filled[:length])
+    return f"; {name} {length}{told}, rest {'kept' if set(filled[length:]) <= {old} else 'lost'}"
+
+
 class Case:
     def __init__(self, grammar, lent):
         rules, *lists = grammar.split(";")
@@ -39,20 +78,25 @@ class Case:
         self.a, self.b, self.c, self.out = map(numbers, lent.split(";"))
 
     def answers(self, name, given):
-        """The line's answer, and what it leaves in the lent lists."""
+        """The line's answer, and what it leaves in the lent lists; None for a line without one."""
         if name == "show":
             *words, out = (shown(each) for each in (self.a, self.b, self.c, self.out))
             if len(self.out) >= SHORT:
                 out = shown(self.out[:FRONT]) + " .."
             return ";".join([*words, out])
         if name == "at":
-            return shown([self.out[given[0]]])
+            return said([self.out[given[0]]])
         if name == "count":
-            return shown([self.out.count(given[0])])
+            return said([self.out.count(given[0])])
+        if name == "file":
+            self.file = file_of(self.grammar, *given)
+            return None
+        if name == "read_blocks":
+            return self.read(given)
         if name.endswith("_visit"):
-            front, prods = (given[:1], given[1:]) if name == "follow_visit" else ([], given)
-            return shown([word for p in prods for word in self.called(name, [*front, p])])
-        return shown(self.called(name, given))
+            before, prods = (given[:1], given[1:]) if name == "follow_visit" else ([], given)
+            return shown([word for p in prods for word in self.called(name, [*before, p])])
+        return said(self.called(name, given))
 
     def called(self, name, given):
         takes = calls.CALLS[name].takes.split()
@@ -62,25 +106,42 @@ class Case:
         refusal, *values = calls.answer(name, [self.grammar, *(next(kinds.get(kind, given)) for kind in takes)])
         return [f"refused {refusal}"] if refusal else values
 
+    def read(self, lengths):
+        lists = [[old] * length for old, length in zip(OLD, lengths, strict=True)]
+        refusal, *counts = calls.answer("read_blocks", [self.file, *lists])
+        answer = f" refused {refusal}" if refusal else said(counts)
+        if all(set(each) <= {old} for each, old in zip(lists, OLD)):
+            return answer + ", kept"
+        return answer + "".join(map(front, ("owners", "starts", "symbols", "costs"), lists, OLD))
 
-class Script(unittest.TestCase):
-    def test_its_input_has_no_answers(self):
-        lines = (CRATE / "stdout").read_text().splitlines(keepends=True)
-        self.assertEqual("".join(line for line in lines if line[0] != "="), (CRATE / "stdin").read_text())
 
-    def test_its_answers_are_those_of_plain_python(self):
+class Scripts(unittest.TestCase):
+    def hold(self, name):
+        """Every answer of a script is that of plain Python; how many there are."""
         count = 0
-        for text in (CRATE / "stdout").read_text().split("\n\n"):
+        for text in (SCRIPTS / name).read_text().split("\n\n"):
             if not text.strip():
                 continue
             title, grammar, lent, *lines = text.strip("\n").split("\n")
-            case = Case(grammar, lent)
-            for call, answer in zip(lines[::2], lines[1::2], strict=True):
-                name, given = re.fullmatch(r"(\w+)\((.*)\)", call).groups()
+            case, lines = Case(grammar, lent), iter(lines)
+            for call in lines:
+                step, given = re.fullmatch(r"(\w+)\((.*)\)", call).groups()
                 with self.subTest(title=title, call=call):
-                    self.assertEqual("=" + case.answers(name, numbers(given)), answer)
-                count += 1
-        self.assertGreater(count, 400)
+                    answer = case.answers(step, numbers(given))
+                    if answer is not None:
+                        self.assertEqual("=" + answer, next(lines))
+                        count += 1
+        return count
+
+    def test_calls(self):
+        self.assertGreater(self.hold("calls.txt"), 400)
+
+    def test_files(self):
+        self.assertGreater(self.hold("files.txt"), 60)
+
+    def test_g1_file(self):
+        g1 = Case("4;1 2 2 3 3 0;0 3 4 4 6 6 7;32770 0 32771 2 1 0 32769;1x4", ";;;").grammar
+        self.assertEqual(file_of(g1, 512), (SCRIPTS.parent.parent / "examples" / "g1.blk").read_bytes())
 
 
 if __name__ == "__main__":

@@ -1,5 +1,6 @@
-# Read by bin/test-c, bin/compare and bin/damage, at the top of the repository. It proves and builds the static library
-# where it is older than the crates (some minutes the first time), and tells how a C program is built on it and run.
+# Read by bin/test-c, bin/test-script, bin/compare and bin/damage, at the top of the repository. It proves and builds
+# the static library where it is older than the crates (some minutes the first time), and tells how a C program is built
+# on it and run.
 # All else comes from the Rattle kit: its compiler, linker and C library; on a processor other than x86-64 its emulator
 # runs the programs.
 

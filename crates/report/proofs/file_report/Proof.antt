@@ -1,4 +1,4 @@
-use Rattle.report.proofs.Sizes.{read-limits, read-fronts}
+use Rattle.report.proofs.Printing.{file-held, file-whole, file-refused}
 use borrow.Author.Needs.{needs}
 use Rattle.report.proofs.file_report.Statement.{statement}
 use Rattle.report.proofs.file_report.Tie as tie
@@ -34,19 +34,37 @@ slice-aggregate-fronts-report-4 : tie.Need-slice-aggregate-fronts-report-4
 slice-aggregate-fronts-report-4 c = search needs
 
 fronts-report-requires : tie.Need-fronts-report-requires
-fronts-report-requires c κs = let r = c .before .before .before .before .before in let l = read-limits _ _ _ _ (r .before .before .before .before .before .before .read .ensures) _ (r .r .given .1) in (l, search (needs, read-fronts _ l))
+fronts-report-requires c κs =
+    let r = c .before .before .before .before .before .before in
+    let k = r .before .before .before .before .before .before in
+    let h = file-held _ _ _ _ _ (k .read .result) (k .read .ensures) _ (r .r .given .1) in
+    (h .long, (h .well, k .before .before .before .before .before .before .before .pre))
 
 enum-known-r-2 : tie.Need-enum-known-r-2
 enum-known-r-2 c = search needs
 
-refused-requires : tie.Need-refused-requires
-refused-requires c κs = search needs
+refusal-requires : tie.Need-refusal-requires
+refusal-requires c κs = search needs
+
+same-length : tie.Need-same-length
+same-length c = search needs
 
 returns : tie.Need-returns
-returns c = search needs
+returns c =
+    let a = c .before .before in
+    let r = a .before .before .before .before .before .before .before in
+    let k = r .before .before .before .before .before .before in
+    (a .fronts-report .ensures .0, file-whole _ _ _ _ _ (k .read .result) (k .read .ensures) _ (r .r .given .1) _ (a .fronts-report .ensures .1))
+
+same-length-2 : tie.Need-same-length-2
+same-length-2 c = search needs
 
 returns-2 : tie.Need-returns-2
-returns-2 c = search needs
+returns-2 c =
+    let a = c .before .before in
+    let r = a .before .before .before in
+    let k = r .before .before .before .before .before .before in
+    (a .refusal .ensures .0, file-refused _ _ _ _ _ (k .read .result) (k .read .ensures) _ (r .r2 .given .1) _ (a .refusal .ensures .1))
 
 pub file-report-spec : {M : Type 1} → statement M
 file-report-spec =
@@ -64,6 +82,8 @@ file-report-spec =
     slice-aggregate-fronts-report-4
     fronts-report-requires
     enum-known-r-2
-    refused-requires
+    refusal-requires
+    same-length
     returns
+    same-length-2
     returns-2)

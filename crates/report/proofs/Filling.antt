@@ -1,0 +1,69 @@
+-- The fills on a well-formed grammar and tables of their exact lengths: none is refused, so each leaves the defined tables.
+use mathlib.Core.List.{List}
+use mathlib.Core.Path.{_≡_, refl, ap, _∙_}
+use Prim.Native.Nat.{ℕ, _*_, _≤_}
+use native.Mathlib.Omega.{arith}
+use lib.ListN.{length, take, replicate, length-replicate}
+use lib.Seq.{length-take-le}
+use Rattle.grammar.specs.Flat.{Flat}
+use Rattle.grammar.specs.Outcome.{answers}
+use Rattle.grammar.specs.Well.{WellFormed}
+use Rattle.tables.specs.declared.Filled.{Filled}
+use Rattle.tables.specs.Sizes.{words}
+use Rattle.tables.proofs.AnyOrder.{goes}
+use Rattle.tables.proofs.Asking.{table-right, row-right, numbers-right, words-most}
+use Rattle.firsts.specs.Lent.{lent as firsts}
+use Rattle.follows.specs.Calls.{Full, fillDue, Fill as FillSets}
+use Rattle.follows.specs.Lent.{lent}
+use Rattle.costs.specs.Calls.{FillProductive, Fill as FillCost}
+use Rattle.costs.specs.Defined.{RowFillable, CostFillable, ProductiveDefined, CostDefined}
+use Rattle.lines.specs.Lent.{Tables, tables}
+use Rattle.lines.proofs.Saying.{fills-define}
+use Rattle.report.specs.Steps.{SetsFillable, Fillable, Ready}
+
+-- the fronts of lists with room for the largest tables
+pub zeros : (n : ℕ) → n ≤ length {A = ℕ} (replicate n 0)
+zeros n = omega (arith, length-replicate {0} {A = ℕ} n 0)
+
+front-long : (n k : ℕ) (list : List ℕ) → n ≡ k → k ≤ length list → length (take n list) ≡ k
+front-long n k list e l = length-take-le n list (omega (arith, e)) ∙ e
+
+pub fronts-fillable : (g : Flat) → WellFormed g → (n w k : ℕ) → n ≡ g .rules → w ≡ words n → k ≡ n * words (length (g .costs))
+    → Fillable g (tables (take w (replicate 16 0)) (take k (replicate 8192 0)) (take k (replicate 8192 0)) (take w (replicate 16 0)) (take n (replicate 512 0)))
+fronts-fillable g x n w k en ew ek =
+    let few = x .sizes .rules-high in
+    let row : words (g .rules) ≤ 16 = omega (arith, few) in
+    let table : g .rules * words (length (g .costs)) ≤ 8192 = words-most (g .rules) (length (g .costs)) _ few (x .sizes .tokens-high) refl in
+    let wide : w ≡ words (g .rules) = ew ∙ ap words en in
+    let all : k ≡ g .rules * words (length (g .costs)) = ek ∙ ap (λ r. r * words (length (g .costs))) en in
+    record {
+      well = x;
+      empty-long = front-long w _ (replicate 16 0) wide (omega (arith, row, zeros 16));
+      first-long = front-long k _ (replicate 8192 0) all (omega (arith, table, zeros 8192));
+      follow-long = front-long k _ (replicate 8192 0) all (omega (arith, table, zeros 8192));
+      productive-long = front-long w _ (replicate 16 0) wide (omega (arith, row, zeros 16));
+      cost-long = front-long n _ (replicate 512 0) en (omega (arith, few, zeros 512));
+    }
+
+-- the filled tables
+pub filled-ready : (g : Flat) → WellFormed g → (empty first follow productive cost : List ℕ) → Full g 2 (lent follow (firsts first empty)) → ProductiveDefined g productive → CostDefined g cost → Ready g (tables empty first follow productive cost)
+filled-ready g x empty first follow productive cost f p c = record { well = x; defined = fills-define g empty first follow productive cost f p c }
+
+module _ (g : Flat) where
+  sets-due : (follow first empty : List ℕ) → SetsFillable g follow first empty → fillDue g 2 (lent follow (firsts first empty)) ≡ answers tt
+  sets-due follow first empty f =
+      goes g (f .well) _
+      ∙ rw (
+        table-right (g .rules) (length (g .costs)) follow (f .follow-long),
+        table-right (g .rules) (length (g .costs)) first (f .first-long),
+        row-right (g .rules) empty (f .empty-long),
+      )
+
+  pub sets-full : (follow first empty : List ℕ) → SetsFillable g follow first empty → (r : Filled) (follow′ first′ empty′ : List ℕ) → FillSets g 2 follow first empty r follow′ first′ empty′ → Full g 2 (lent follow′ (firsts first′ empty′))
+  sets-full follow first empty f r follow′ first′ empty′ x = x .does (sets-due follow first empty f) .left
+
+  pub productive-full : (row : List ℕ) → RowFillable g row → (r : Filled) (row′ : List ℕ) → FillProductive g row r row′ → ProductiveDefined g row′
+  productive-full row f r row′ x = x .does (goes g (f .well) _ ∙ rw (row-right (g .rules) row (f .long))) .left
+
+  pub cost-full : (cost : List ℕ) → CostFillable g cost → (r : Filled) (cost′ : List ℕ) → FillCost g cost r cost′ → CostDefined g cost′
+  cost-full cost f r cost′ x = x .does (goes g (f .well) _ ∙ rw (numbers-right (g .rules) cost (f .long))) .left

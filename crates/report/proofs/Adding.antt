@@ -11,7 +11,7 @@ use borrow.Author.Tests.{eq-eqb}
 use Rattle.grammar.specs.Flat.{Flat}
 use Rattle.grammar.specs.Outcome.{answers}
 use Rattle.grammar.proofs.Outcomes.{not-both, answers-one}
-use Rattle.tables.specs.Append.{Appended}
+use Rattle.tables.specs.Append.{Appended, Writes}
 use Rattle.tables.specs.Call.{Call}
 use Rattle.tables.proofs.Appending.{appended-none, appended-long, appended-then}
 use Rattle.tables.specs.declared.Written.{Written}
@@ -20,7 +20,6 @@ use Rattle.lines.specs.Append.{Room}
 use Rattle.lines.specs.Line.{lineOf, headingOf, refusedOf}
 use Rattle.lines.specs.Lent.{Tables, outWrong, entryOf}
 use Rattle.tables.specs.Answers.{writtenIs}
-use Rattle.tables.specs.Append.{Writes}
 use Rattle.lines.specs.Calls.{outDue, Heading, RefusedLine, Line}
 use Rattle.lines.specs.Report.{none, more, GrammarReport}
 use Rattle.lines.proofs.Calling.{writes}

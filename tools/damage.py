@@ -37,9 +37,11 @@ VISITS = ["cost_visit", "follow_visit"]
 # The calls to draw from: more of those with many refusals or cases. File reads have the longest lists.
 DRAWN = [name for name in calls.CALLS if name != "read_blocks"] * 2 + SENTENCES * 6 + VISITS * 3 + ["read_blocks"] * 3
 DRAWN += ["write_blocks"] * 2
-# The shapes that show most of a call: sentences that are refused, visits that read what they have written.
+# The shapes that show most of a call: sentences that are refused, visits that read what they have written, files of
+# several blocks.
 TELLING = {name: ["no_sentence", "dear", "dear_flat", "unit_cycles"] for name in SENTENCES}
 TELLING |= {name: ["own_rule", "empty_chains", "right_recursion"] for name in VISITS}
+TELLING |= {"write_blocks": ["wide_tokens", "wide_both", "many_rules", "dear_flat"]}
 
 
 # Grammars.
@@ -210,6 +212,8 @@ def any_call(draw):
     if name == "read_blocks":
         return name, [list(any_file(draw)), *any_lists(draw)]
     g = any_grammar(draw, TELLING.get(name, QUICK) if draw.random() < 0.6 else QUICK)
+    if name == "write_blocks" and draw.random() < 0.3:
+        g = g._replace(costs=[255] * len(g.costs))  # so that a block's bytes add up to more than 65535
     return name, [g, *parameters(draw, name, g)]
 
 

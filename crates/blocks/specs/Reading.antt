@@ -44,6 +44,7 @@ unlessFile file x =
     (unless (countsOut (countsOf file)) 1
     (unless (blocksWrong file (countsOf file)) 23 x))))
 
+-- a file's own refusals
 abbrev pub fileDue : List ℕ → Outcome (Unit {0})
 fileDue file = unlessFile file (answers tt)
 

@@ -1,10 +1,17 @@
 pub mod Lists
+pub mod Framing
+pub mod Coding
 pub mod Steps
 pub mod Conditions
 pub mod Answering
+pub mod Writing
+pub mod Storing
 pub mod Determined
 pub mod Order
 pub mod Exactly
+pub mod Refusing
 pub mod Entries
+pub mod File
+pub mod RoundTrip
 pub mod G1
 pub mod Saying

@@ -8,6 +8,7 @@ use native.Mathlib.Omega.{arith}
 use Rattle.grammar.specs.Flat.{Flat}
 use Rattle.grammar.specs.Outcome.{Outcome, answers, refused, unless, lowest}
 use Rattle.grammar.specs.Refusals.{dues, unlessDue}
+use Rattle.tables.specs.Append.{Writes}
 use Rattle.tables.specs.Call.{Call, Visits, Leaves}
 use Rattle.paths.specs.Calls.{Answers}
 use Rattle.costs.specs.Query.{Work, Priced}
@@ -72,6 +73,9 @@ sentenced-numbered g r out x = subst Numbered (sym (says-said (x .says) (fate g 
     go (circular n h) = omega arith
     go (long w y h) = omega arith
     go (is w y a b) = tt
+
+pub writes-numbered : {w out to : List ℕ} {s : Outcome ℕ} → Writes w out s to → Numbered s
+writes-numbered x = answered _ (x .counts)
 
 pub reads-numbered : {file : List ℕ} {before after : Lists} {s : Outcome _} → Reads file before s after → Numbered s
 reads-numbered x = subst Numbered (sym (x .answer)) (due-numbered _ _ tt)

@@ -8,10 +8,11 @@ use Rattle.grammar.specs.Flat.{Flat, at}
 use Rattle.grammar.specs.Outcome.{Outcome, answers, refused}
 use Rattle.grammar.specs.Production.{checkedIs, productionOf}
 use Rattle.grammar.specs.declared.Checked.{Checked}
-use Rattle.tables.specs.Answers.{askedIs, visitedIs, filledIs}
+use Rattle.tables.specs.Answers.{askedIs, visitedIs, filledIs, writtenIs}
 use Rattle.tables.specs.declared.Asked.{Asked}
 use Rattle.tables.specs.declared.Visited.{Visited}
 use Rattle.tables.specs.declared.Filled.{Filled}
+use Rattle.tables.specs.declared.Written.{Written}
 use Rattle.costs.specs.Query.{costIs}
 use Rattle.costs.specs.declared.Cost.{Cost}
 use Rattle.sentences.specs.Query.{lengthIs}
@@ -63,6 +64,9 @@ costAnswer c = answerOf (costIs c)
 
 abbrev pub lengthAnswer : Length → Answer
 lengthAnswer l = answerOf (lengthIs l)
+
+abbrev pub writtenAnswer : Written → Answer
+writtenAnswer w = answerOf (writtenIs w)
 
 -- an answer that the library call's promise allows, as the struct
 pub record Says {A B : Type 0} (Promise : A → Type 0) (shows : A → B) (x : B) : Type 0 where

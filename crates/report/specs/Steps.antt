@@ -7,8 +7,8 @@ use Rattle.grammar.specs.Flat.{Flat}
 use Rattle.grammar.specs.Well.{WellFormed}
 use Rattle.tables.specs.Append.{Appended}
 use Rattle.tables.specs.Sizes.{words}
-use Rattle.lines.specs.declared.Written.{Written}
-use Rattle.lines.specs.declared.Written.the-variants.{Bytes, Refused}
+use Rattle.tables.specs.declared.Written.{Written}
+use Rattle.tables.specs.declared.Written.the-variants.{Bytes, Refused}
 use Rattle.lines.specs.Line.{Entry, lineOf}
 use Rattle.lines.specs.Lent.{Tables}
 use Rattle.lines.specs.Says.{Defined, Says}

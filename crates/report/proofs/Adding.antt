@@ -22,7 +22,7 @@ use Rattle.lines.specs.Lent.{Tables, outWrong, entryOf}
 use Rattle.tables.specs.Answers.{writtenIs}
 use Rattle.lines.specs.Calls.{outDue, Heading, RefusedLine, Line}
 use Rattle.lines.specs.Report.{none, more, GrammarReport}
-use Rattle.lines.proofs.Calling.{writes}
+use Rattle.tables.proofs.Appending.{writes}
 use Rattle.lines.proofs.Length.{line-short, refused-long}
 use Rattle.lines.proofs.Printing.{line-due}
 use Rattle.lines.proofs.Saying.{line-says}

@@ -1,17 +1,19 @@
-"""The 20 calls of bindings/include/boltmarrow.h once more, in plain Python, on arbitrary lists and numbers. They are
-written from document 01, over the definitions and visits of plain.py: here are the tables as words, their lengths and
-the calls' own refusals. A call changes the lists that it is lent, and returns its values or raises plain.Refused.
+"""The 21 calls of bindings/include/boltmarrow.h once more, in plain Python, on arbitrary lists and numbers. They are
+written from documents 01 and 02, over the definitions and visits of plain.py: here are the tables as words, their
+lengths and the calls' own refusals. A block file is written by bin/blocks. A call changes the lists that it is lent,
+and returns its values or raises plain.Refused.
 """
 from typing import NamedTuple
 
 import plain
+from block_text import blocks, text_of
 from plain import MOST, Refused
 
 LISTS = 4096, 4097, 16384, 512  # the lengths of the lists that the file reader takes
 
 
 class Call(NamedTuple):
-    takes: str  # behind the grammar: numbers by what they count; lists of words: marks, row, entries; and room
+    takes: str  # behind the grammar: numbers by what they count; lists of words: marks, row, entries; room and bytes
     refusals: tuple  # its own; besides, each gives 1 to 6
     values: int  # the values of an answer
     make: object
@@ -213,6 +215,15 @@ def min_sentence(g, rule, productive, cost, lengths, out):
     return [len(sentence)]
 
 
+def write_blocks(g, out):
+    plain.check(g)
+    file = blocks.write(text_of(g))
+    if len(out) < len(file):
+        raise Refused(24)
+    out[: len(file)] = file
+    return [len(file)]
+
+
 def read_blocks(file, *lists):
     if tuple(len(each) for each in lists) != LISTS:
         raise Refused(7)
@@ -244,6 +255,7 @@ CALLS = {
     "follow_visit": Call("mode prod marks marks row", (7, 8, 11), 1, follow_visit),
     "follow_fill": Call("mode marks marks row", (7, 8), 1, follow_fill),
     "min_sentence": Call("rule row entries entries room", (7, 9, 12, 13, 14, 15), 1, min_sentence),
+    "write_blocks": Call("bytes", (24,), 1, write_blocks),
     "read_blocks": Call("", (7, 20, 21, 22, 23), 4, read_blocks),
 }
 

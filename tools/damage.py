@@ -4,8 +4,8 @@
 
 A call's grammar is of a shape of tools/grammars.py, as it is or with refusals made due, one or two, or a list cut,
 lengthened, emptied or with an entry replaced. Tables hold anything, spare bits and entries above 65536 included, and
-may be of a wrong length; numbers may be out of range, room short. A block file has what a file can have wrong. The
-answer and every element of every list must be equal. It prints how often each call gave each refusal, 0 for an answer;
+may be of a wrong length; numbers may be out of range, room short. A block file has what a file can have wrong; one that
+is written must be bin/blocks' own. The answer and every element of every list must be equal. It prints how often each call gave each refusal, 0 for an answer;
 it exits with 1 if an answer differs, or if of the usual number of calls none gave some refusal that the call can give.
 """
 import array
@@ -36,9 +36,12 @@ SENTENCES = ["min_sentence_cost", "min_sentence"]
 VISITS = ["cost_visit", "follow_visit"]
 # The calls to draw from: more of those with many refusals or cases. File reads have the longest lists.
 DRAWN = [name for name in calls.CALLS if name != "read_blocks"] * 2 + SENTENCES * 6 + VISITS * 3 + ["read_blocks"] * 3
-# The shapes that show most of a call: sentences that are refused, visits that read what they have written.
+DRAWN += ["write_blocks"] * 2
+# The shapes that show most of a call: sentences that are refused, visits that read what they have written, files of
+# several blocks.
 TELLING = {name: ["no_sentence", "dear", "dear_flat", "unit_cycles"] for name in SENTENCES}
 TELLING |= {name: ["own_rule", "empty_chains", "right_recursion"] for name in VISITS}
+TELLING |= {"write_blocks": ["wide_tokens", "wide_both", "many_rules", "dear_flat"]}
 
 
 # Grammars.
@@ -121,6 +124,14 @@ def any_room(draw, g, rule):
     return [draw.randint(0, MOST) for _ in range(length)]
 
 
+def any_bytes(draw, g):
+    """Room for a block file: as long as the grammar's, a byte or a block shorter or longer, or any."""
+    payload = 2 * (4 + len(g.owners) + len(g.starts) + len(g.symbols)) + len(g.costs)
+    exact = -(-payload // 508) * 512
+    length = draw.choice((exact, exact, exact - 1, exact - 512, exact + 1, exact + 512, 0, draw.randint(0, 2 * exact)))
+    return list(draw.randbytes(length)) if draw.random() < 0.5 else [draw.choice((0, 1, 255))] * length
+
+
 # By the words of calls.Call.takes: of a random.Random, the grammar and the parameters so far.
 PARAMETERS = {
     "rule": lambda draw, g, _: number_below(draw, g.rules),
@@ -131,6 +142,7 @@ PARAMETERS = {
     "row": lambda draw, g, _: any_marks(draw, calls.row_length(g)),
     "entries": lambda draw, g, _: any_entries(draw, calls.cost_length(g)),
     "room": lambda draw, g, before: any_room(draw, g, before[0]),
+    "bytes": lambda draw, g, _: any_bytes(draw, g),
 }
 
 
@@ -200,6 +212,8 @@ def any_call(draw):
     if name == "read_blocks":
         return name, [list(any_file(draw)), *any_lists(draw)]
     g = any_grammar(draw, TELLING.get(name, QUICK) if draw.random() < 0.6 else QUICK)
+    if name == "write_blocks" and draw.random() < 0.3:
+        g = g._replace(costs=[255] * len(g.costs))  # so that a block's bytes add up to more than 65535
     return name, [g, *parameters(draw, name, g)]
 
 

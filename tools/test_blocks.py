@@ -1,5 +1,8 @@
 #!/usr/bin/env python3
-"""Tests of bin/blocks. Run alone, or with the others of this folder: python3 -m unittest discover -s tools"""
+"""Tests of bin/blocks. Run alone, or with the others of this folder: python3 -m unittest discover -s tools
+
+bin/blocks shares nothing with the library's writer, which stores well-formed grammars alone. bin/damage holds the two
+to each other, byte for byte, on random grammars: there text_of gives bin/blocks each of them as a text."""
 import random
 import struct
 import sys
@@ -7,7 +10,8 @@ import unittest
 
 sys.dont_write_bytecode = True
 import largest
-from block_text import TOP, blocks
+import plain
+from block_text import TOP, blocks, text_of
 
 EXAMPLES = TOP / "examples"
 GRAMMARS, REFUSALS = sorted(EXAMPLES.glob("*.txt")), sorted((EXAMPLES / "refused").glob("*.txt"))
@@ -89,6 +93,12 @@ class Blocks(unittest.TestCase):
         self.assertEqual(data + b"\0", (EXAMPLES / "largest" / "one-byte-more.blk").read_bytes())
         self.again(data)
         self.again(data + b"\0")
+
+    def test_a_grammar_that_was_read_is_written_as_its_file(self):
+        for path in [*EXAMPLES.glob("*.blk"), EXAMPLES / "largest" / "98-blocks.blk"]:
+            with self.subTest(path.name):
+                data = path.read_bytes()
+                self.assertEqual(blocks.write(text_of(plain.read_tables(data))), data)
 
     def test_refused_examples_say_their_number(self):
         for path in REFUSALS:

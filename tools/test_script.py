@@ -16,7 +16,7 @@ SCRIPTS = pathlib.Path(__file__).resolve().parent.parent / "bindings" / "scripts
 STEPS = {"x": 0, "+": 1, "-": -1}
 SHORT, FRONT = 600, 16  # a list of that length is not shown whole, but its front
 OLD = 9999, 9999, 9999, 99  # what the lists are full of that a file is read into
-NAMED = 8  # the numbers of a longer front are not said, but their sum
+NAMED = 8  # the numbers of a longer front, or of more checks, are not said, but their sum
 
 
 def numbers(text):
@@ -71,6 +71,12 @@ def front(name, filled, old):
     return f"; {name} {length}{told}, rest {'kept' if set(filled[length:]) <= {old} else 'lost'}"
 
 
+def checks(file):
+    """The check of each block of a file."""
+    found = [int.from_bytes(file[end - 2 : end], "little") for end in range(512, len(file) + 1, 512)]
+    return f"checks {len(found)}" + (f", sum {sum(found)}" if len(found) > NAMED else ":" + said(found))
+
+
 class Case:
     def __init__(self, grammar, lent):
         rules, *lists = grammar.split(";")
@@ -93,6 +99,8 @@ class Case:
             return None
         if name == "read_blocks":
             return self.read(given)
+        if name == "write_blocks":
+            return self.write(*given)
         if name.endswith("_visit"):
             before, prods = (given[:1], given[1:]) if name == "follow_visit" else ([], given)
             return shown([word for p in prods for word in self.called(name, [*before, p])])
@@ -113,6 +121,16 @@ class Case:
         if all(set(each) <= {old} for each, old in zip(lists, OLD)):
             return answer + ", kept"
         return answer + "".join(map(front, ("owners", "starts", "symbols", "costs"), lists, OLD))
+
+
+    def write(self, room):
+        out = [OLD[3]] * room
+        refusal, length = calls.answer("write_blocks", [self.grammar, out])
+        self.file, past = bytearray(out[:length]), out[length:]
+        answer = f" refused {refusal}" if refusal else f" {length}; {checks(self.file)}; "
+        if not refusal:
+            answer += f"{'as' if self.file == file_of(self.grammar, length) else 'other than'} file({length})"
+        return f"{answer}; {len(past)} {'kept' if set(past) <= {OLD[3]} else 'lost'}"
 
 
 class Scripts(unittest.TestCase):
@@ -137,7 +155,7 @@ class Scripts(unittest.TestCase):
         self.assertGreater(self.hold("calls.txt"), 400)
 
     def test_files(self):
-        self.assertGreater(self.hold("files.txt"), 60)
+        self.assertGreater(self.hold("files.txt"), 100)
 
     def test_g1_file(self):
         g1 = Case("4;1 2 2 3 3 0;0 3 4 4 6 6 7;32770 0 32771 2 1 0 32769;1x4", ";;;").grammar

@@ -1,6 +1,6 @@
-/* Document 01 once more in C, plain and slow, to compare the library with. It is written from that text, with the
- * readings of its open points in docs/DECISIONS.md, and from no crate. A call names an exported function and holds what
- * it is lent; `model` makes the call on those lists. */
+/* Document 01 once more in C, with the file writer of document 02, plain and slow, to compare the library with. It is
+ * written from those texts, with the readings of their open points in docs/DECISIONS.md, and from no crate. A call
+ * names an exported function and holds what it is lent; `model` makes the call on those lists. */
 #include <stddef.h>
 #include <stdint.h>
 #include <string.h>
@@ -34,12 +34,13 @@ typedef enum {
     FOLLOW_VISIT,
     FOLLOW_FILL,
     MIN_SENTENCE,
+    WRITE_BLOCKS,
     OPS
 } op;
 
 /* The tables that a call is lent, in order: T a row of tokens a rule, E one row of rules, C a number a rule. */
 static const char *const tables_of[OPS] = {"",  "",  "T",  "E", "TE", "TE",  "TE",  "",   "E", "E",
-                                           "E", "C", "C",  "C", "EC", "T",   "TTE", "TTE", "ECC"};
+                                           "E", "C", "C",  "C", "EC", "T",   "TTE", "TTE", "ECC", ""};
 
 typedef struct {
     op op;
@@ -49,6 +50,8 @@ typedef struct {
     size_t table_len[3];
     uint16_t *out;
     size_t out_len;
+    uint8_t *bytes;
+    size_t bytes_len;
 } call;
 
 /* What any call answers: the refusal, then the other fields of its struct. */
@@ -301,6 +304,66 @@ static result sentence(call *c) {
     return answered(lengths[c->rule] ? (uint32_t)expand(g, c->rule, cost, lengths, c->out, 0) : 0);
 }
 
+enum { BLOCK = 512, PAYLOAD = 508 };
+
+static uint32_t pair(const uint8_t *low) { return low[0] + 256u * low[1]; }
+
+/* Where in a file byte i of the payload stands. */
+static size_t place(size_t i) { return i / PAYLOAD * BLOCK + 2 + i % PAYLOAD; }
+
+static uint32_t payload_byte(const uint8_t *file, size_t i) { return file[place(i)]; }
+
+static uint32_t payload_number(const uint8_t *file, size_t i) {
+    return payload_byte(file, i) + 256u * payload_byte(file, i + 1);
+}
+
+static uint32_t block_sum(const uint8_t *block) {
+    uint32_t sum = 0;
+    for (size_t i = 0; i < 510; i++) sum += block[i];
+    return sum % 65536;
+}
+
+static void put_pair(uint8_t *low, uint32_t n) { low[0] = (uint8_t)n, low[1] = (uint8_t)(n >> 8); }
+
+/* Puts numbers from payload byte `at` on; where the next one begins. */
+static size_t put_numbers(uint8_t *file, size_t at, const uint16_t *list, size_t count) {
+    for (size_t i = 0; i < count; i++, at += 2) {
+        file[place(at)] = (uint8_t)list[i];
+        file[place(at + 1)] = (uint8_t)(list[i] >> 8);
+    }
+    return at;
+}
+
+/* The bytes of a file whose payload has so many: whole blocks. */
+static size_t file_bytes(size_t payload) { return (payload + PAYLOAD - 1) / PAYLOAD * BLOCK; }
+
+static void put_checks(uint8_t *file, size_t len) {
+    for (uint8_t *b = file; b < file + len; b += BLOCK) put_pair(b + 510, block_sum(b));
+}
+
+/* The block file of a grammar, well formed or not, of which starts has P+1 numbers; its length. */
+static size_t write_file(const grammar *g, uint8_t *file) {
+    uint16_t head[] = {g->rules, (uint16_t)g->tokens, (uint16_t)g->prods, (uint16_t)g->symbols_len};
+    size_t len = file_bytes(8 + 2 * (g->prods + g->prods + 1 + g->symbols_len) + g->tokens), at;
+    memset(file, 0, len);
+    for (size_t b = 0; b < len / BLOCK; b++) put_pair(file + b * BLOCK, (uint32_t)b);
+    at = put_numbers(file, 0, head, 4);
+    at = put_numbers(file, at, g->owners, g->prods);
+    at = put_numbers(file, at, g->starts, g->prods + 1);
+    at = put_numbers(file, at, g->symbols, g->symbols_len);
+    for (size_t i = 0; i < g->tokens; i++) file[place(at + i)] = g->costs[i];
+    put_checks(file, len);
+    return len;
+}
+
+static result write_model(call *c) {
+    static uint8_t file[98 * BLOCK];
+    size_t len = write_file(&c->g, file);
+    if (c->bytes_len < len) return refused(24);
+    memcpy(c->bytes, file, len);
+    return answered((uint32_t)len);
+}
+
 /* The first refusal of a call that stands before its work, or 0. */
 static uint32_t refusal_of(const call *c) {
     const grammar *g = &c->g;
@@ -378,6 +441,8 @@ static result model(call *c) {
         return r;
     case MIN_SENTENCE:
         return sentence(c);
+    case WRITE_BLOCKS:
+        return write_model(c);
     case OPS:
         break;
     }
@@ -390,22 +455,6 @@ typedef struct {
     uint8_t *costs;
     size_t owners_len, starts_len, symbols_len, costs_len;
 } lists;
-
-enum { BLOCK = 512, PAYLOAD = 508 };
-
-static uint32_t pair(const uint8_t *low) { return low[0] + 256u * low[1]; }
-
-static uint32_t payload_byte(const uint8_t *file, size_t i) { return file[i / PAYLOAD * BLOCK + 2 + i % PAYLOAD]; }
-
-static uint32_t payload_number(const uint8_t *file, size_t i) {
-    return payload_byte(file, i) + 256u * payload_byte(file, i + 1);
-}
-
-static uint32_t block_sum(const uint8_t *block) {
-    uint32_t sum = 0;
-    for (size_t i = 0; i < 510; i++) sum += block[i];
-    return sum % 65536;
-}
 
 static result read_model(const uint8_t *file, size_t len, lists *to) {
     size_t blocks = len / BLOCK, at = 8, i;
@@ -420,7 +469,7 @@ static result read_model(const uint8_t *file, size_t len, lists *to) {
     for (i = 0; i < 4; i++) n[i] = payload_number(file, 2 * i);
     if (!in_limits(n[0], n[1], n[2], n[3])) return refused(1);
     size_t due = 8 + 2 * (n[2] + n[2] + 1 + n[3]) + n[1];
-    if (blocks != (due + PAYLOAD - 1) / PAYLOAD) return refused(23);
+    if (len != file_bytes(due)) return refused(23);
     for (i = due; i < blocks * PAYLOAD; i++)
         if (payload_byte(file, i)) return refused(23);
     for (i = 0; i < n[2]; i++, at += 2) to->owners[i] = (uint16_t)payload_number(file, at);

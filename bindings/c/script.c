@@ -102,7 +102,7 @@ static void read_numbers(uint32_t highest) {
     while (*here == ' ') here++, read_run(highest);
 }
 
-/* Lent lists: a case's grammar, its tables and room, a file, and what a file is read into. */
+/* Lent lists: a case's grammar, its tables and room, a file or room for one, and what a file is read into. */
 enum { OWNERS, STARTS, SYMBOLS, COSTS, A, B, C, OUT, BYTES, READ_OWNERS, READ_STARTS, READ_SYMBOLS, READ_COSTS, LISTS };
 static const size_t size[LISTS] = {2, 2, 2, 1, 4, 4, 4, 2, 1, 2, 2, 2, 1};
 static uint8_t rooms[LISTS][GUARD + 4 * MOST + 2 * FENCE], guard[GUARD];
@@ -293,27 +293,34 @@ static void put_checks(void) {
     }
 }
 
+/* The grammar's file, of so many bytes. */
+static void make_file(size_t len) {
+    lend_same(BYTES, len, 0);
+    put_grammar();
+    put_block_numbers();
+    put_checks();
+}
+
 static void put_changes(void) {
     for (size_t i = 1; i < given_len; i += 2) put_number(given[i], given[i + 1]);
 }
 
-/* The grammar's file, of so many bytes, with numbers changed: before the checks, so that these are right for any other
- * change, and after them, so that a check changed stays so. */
+/* The same with numbers changed: before the checks, so that these are right for any other change, and after them, so
+ * that a check changed stays so. */
 static void file(void) {
     if (given_len % 2 == 0) fail("a changed number is due, behind its place", line);
     for (size_t i = 1; i < given_len; i += 2)
         if (given[i] + 2 > given[0]) fail("a changed number stands past the file's end", line);
-    lend_same(BYTES, given[0], 0);
-    put_grammar();
-    put_block_numbers();
+    make_file(given[0]);
     put_changes();
     put_checks();
     put_changes();
     file_made = 1;
 }
 
-/* The lists that a file is read into are full of a number which no file here has, so it shows what was kept. */
-static uint32_t old(int list) { return list == READ_COSTS ? 99 : 9999; }
+/* The lists that a file is read into are full of a number which no file here has, so it shows what was kept; so is the
+ * room that a file is written to. */
+static uint32_t old(int list) { return size[list] == 1 ? 99 : 9999; }
 
 /* The first place from there on that is kept, or that is not. */
 static size_t next_place(int list, size_t i, int kept) {
@@ -357,6 +364,43 @@ static void read_blocks(void) {
     say_fronts();
 }
 
+/* The check of each block, of many their sum. */
+static void say_checks(const uint8_t *bytes, size_t blocks) {
+    uint64_t sum = 0;
+    printf("; checks %zu%s", blocks, blocks > NAMED ? ", sum" : ":");
+    for (size_t b = 0; b < blocks; b++) {
+        const uint8_t *check = bytes + b * BLOCK + CHECK;
+        uint32_t n = check[0] + 256u * check[1];
+        if (blocks <= NAMED) printf(" %u", n);
+        sum += n;
+    }
+    if (blocks > NAMED) printf(" %llu", (unsigned long long)sum);
+}
+
+/* Writes the grammar's file to room full of 99. What was written is then the case's file, once it has been held to
+ * what the step `file` makes; with a refusal there is none. */
+static void write_blocks(void) {
+    static uint8_t written[MOST];
+    lend_same(BYTES, given[0], old(BYTES));
+    boltmarrow_answer a = boltmarrow_write_blocks(G, LIST(uint8_t, BYTES));
+    size_t room = lent[BYTES].len, len = a.refusal ? 0 : a.value;
+    if (len > room) fail("it says more bytes than there is room", line);
+    int kept = next_place(BYTES, len, 0) == room;
+    check_guards();
+    memcpy(written, lent[BYTES].at, len);
+    make_file(len);
+    if (a.refusal) {
+        printf(" refused %u", a.refusal);
+    } else {
+        printf(" %zu", len);
+        say_checks(written, len / BLOCK);
+        printf("; %s file(%zu)", memcmp(written, lent[BYTES].at, len) ? "other than" : "as", len);
+    }
+    printf("; %zu %s", room - len, kept ? "kept" : "lost");
+    memcpy(lent[BYTES].at, written, len);
+    file_made = !a.refusal;
+}
+
 /* Every step: its name, how many numbers it has in its brackets, at least and at most, and whether it has an answer. */
 static const struct step {
     const char *name;
@@ -368,6 +412,7 @@ static const struct step {
 #define EACH(name, before, ...) {#name, before + 1, MOST, 1, name},
     CALLS
     {"read_blocks", 4, 4, 1, read_blocks},
+    {"write_blocks", 1, 1, 1, write_blocks},
     {"file", 1, MOST, 0, file},
     {"show", 0, 0, 1, show},
     {"at", 1, 1, 1, at},

@@ -74,7 +74,7 @@ static const char *const names[OPS] = {
     "check",        "production",       "mark",             "rule_mark",       "first_clear",
     "first_visit",  "first_fill",       "has_path",         "productive_clear", "productive_visit",
     "productive_fill", "cost_clear",    "cost_visit",       "cost_fill",       "min_sentence_cost",
-    "follow_clear", "follow_visit",     "follow_fill",      "min_sentence"};
+    "follow_clear", "follow_visit",     "follow_fill",      "min_sentence",    "write_blocks"};
 
 static result pack(boltmarrow_answer a) {
     result r = {a.refusal, {a.value, 0, 0, 0}};
@@ -89,7 +89,7 @@ static result stretch(boltmarrow_stretch s) {
 /* The lent copies of a call's lists. */
 typedef struct {
     uint16_t *owners, *starts, *symbols, *out;
-    uint8_t *costs;
+    uint8_t *costs, *bytes;
     uint32_t *table[3];
 } copies;
 
@@ -100,6 +100,7 @@ static copies lend_all(const call *c) {
     l.symbols = lend(2, g->symbols, g->symbols_len, 2), l.costs = lend(3, g->costs, g->tokens, 1);
     for (int i = 0; i < (int)strlen(tables_of[c->op]); i++) l.table[i] = lend(4 + i, c->table[i], c->table_len[i], 4);
     if (c->op == MIN_SENTENCE) l.out = lend(7, c->out, c->out_len, 2);
+    if (c->op == WRITE_BLOCKS) l.bytes = lend(7, c->bytes, c->bytes_len, 1);
     return l;
 }
 
@@ -152,6 +153,8 @@ static result library(const call *c, copies l) {
         return pack(boltmarrow_follow_fill(G, c->mode, T(0), T(1), T(2)));
     case MIN_SENTENCE:
         return pack(boltmarrow_min_sentence(G, rule, T(0), T(1), T(2), l.out, c->out_len));
+    case WRITE_BLOCKS:
+        return pack(boltmarrow_write_blocks(G, l.bytes, c->bytes_len));
     case OPS:
         break;
     }
@@ -229,6 +232,7 @@ static result run(call *c) {
     returned(what, 3, c->g.costs);
     for (int i = 0; i < (int)strlen(tables_of[c->op]); i++) returned(what, 4 + i, c->table[i]);
     if (c->op == MIN_SENTENCE) returned(what, 7, c->out);
+    if (c->op == WRITE_BLOCKS) returned(what, 7, c->bytes);
     return got;
 }
 
@@ -261,6 +265,7 @@ static void prod(uint16_t owner, const uint16_t *list, size_t count) {
 
 static uint32_t words[3][WORDS];
 static uint16_t output[100000];
+static uint8_t bytes[100000];
 
 /* Words of every kind: sparse, dense, none, all, and numbers near COST's ends. */
 static uint32_t word(void) {
@@ -279,14 +284,18 @@ static uint32_t word(void) {
     }
 }
 
-/* A call on the grammar at hand, its tables of the right lengths and full of random words. */
+/* The largest file, and some bytes more. */
+enum { ROOM = 98 * BLOCK + 100 };
+
+/* A call on the grammar at hand, its tables of the right lengths and full of random words, and room for any file. */
 static call make(op which) {
-    call c = {which, g, 0, 0, 0, 1, 0, {words[0], words[1], words[2]}, {0, 0, 0}, output, 100};
+    call c = {which, g, 0, 0, 0, 1, 0, {words[0], words[1], words[2]}, {0, 0, 0}, output, 100, bytes, ROOM};
     for (size_t i = 0; i < strlen(tables_of[which]); i++) {
         c.table_len[i] = length_of(tables_of[which][i], &g);
         for (size_t j = 0; j < c.table_len[i]; j++) words[i][j] = word();
     }
     for (size_t i = 0; i < 100; i++) output[i] = (uint16_t)next();
+    for (size_t i = 0; i < ROOM && which == WRITE_BLOCKS; i++) bytes[i] = (uint8_t)next();
     return c;
 }
 
@@ -300,7 +309,7 @@ static result fill(op which, uint16_t mode) {
 static uint32_t row(uint16_t rule) {
     uint32_t bits = 0;
     for (uint16_t t = 0; t < g.tokens; t++) {
-        call c = {MARK, g, rule, t, 0, 0, 0, {words[0]}, {length_of('T', &g)}, NULL, 0};
+        call c = {MARK, g, rule, t, 0, 0, 0, {words[0]}, {length_of('T', &g)}, NULL, 0, NULL, 0};
         bits |= run(&c).field[0] << t;
     }
     return bits;
@@ -309,7 +318,7 @@ static uint32_t row(uint16_t rule) {
 static uint32_t rule_row(int table) {
     uint32_t bits = 0;
     for (uint16_t r = 0; r < g.rules; r++) {
-        call c = {RULE_MARK, g, r, 0, 0, 0, 0, {words[table]}, {length_of('E', &g)}, NULL, 0};
+        call c = {RULE_MARK, g, r, 0, 0, 0, 0, {words[table]}, {length_of('E', &g)}, NULL, 0, NULL, 0};
         bits |= run(&c).field[0] << r;
     }
     return bits;
@@ -388,7 +397,7 @@ static void g1(void) {
     fill(FIRST_CLEAR, 0);
     for (int round = 0; round < 2; round++) {
         for (int i = 0; i < 6; i++) {
-            call v = {FIRST_VISIT, g, 0, 0, order[i], 0, 0, {words[0], words[1]}, {4, 1}, NULL, 0};
+            call v = {FIRST_VISIT, g, 0, 0, order[i], 0, 0, {words[0], words[1]}, {4, 1}, NULL, 0, NULL, 0};
             run(&v);
         }
         expect("G1 rounds", row(1), round ? 5 : 0);
@@ -587,38 +596,28 @@ static result read_into(size_t a, size_t b, size_t c, size_t d) {
 
 static uint32_t read_refusal(void) { return read_into(4096, 4097, 16384, 512).refusal; }
 
-static void seal(void) {
-    for (uint8_t *b = file; b < file + file_len; b += BLOCK) {
-        uint32_t sum = block_sum(b);
-        b[510] = (uint8_t)sum, b[511] = (uint8_t)(sum >> 8);
-    }
-}
+static void seal(void) { put_checks(file, file_len); }
 
-static void put(size_t at, uint32_t byte) { file[at / PAYLOAD * BLOCK + 2 + at % PAYLOAD] = (uint8_t)byte; }
-
-static size_t put_numbers(size_t at, const uint16_t *list, size_t count) {
-    for (size_t i = 0; i < count; i++, at += 2) put(at, list[i]), put(at + 1, list[i] >> 8);
-    return at;
-}
-
-/* Writes the grammar at hand as a block file. */
-static void write_file(void) {
-    uint16_t head[] = {g.rules, (uint16_t)g.tokens, (uint16_t)g.prods, (uint16_t)g.symbols_len};
-    size_t due = 8 + 2 * (g.prods + g.prods + 1 + g.symbols_len) + g.tokens, at;
-    file_len = (due + PAYLOAD - 1) / PAYLOAD * BLOCK;
+/* Makes the block file of the grammar at hand. */
+static void make_file(void) {
     memset(file, 0, sizeof file);
-    for (size_t b = 0; b < file_len / BLOCK; b++) file[b * BLOCK] = (uint8_t)b;
-    at = put_numbers(0, head, 4);
-    at = put_numbers(at, owners, g.prods);
-    at = put_numbers(at, starts, g.prods + 1);
-    at = put_numbers(at, symbols, g.symbols_len);
-    for (size_t i = 0; i < g.tokens; i++) put(at + i, costs[i]);
-    seal();
+    file_len = write_file(&g, file);
 }
 
 static void g1_file(void) {
     begin_g1();
-    write_file();
+    make_file();
+}
+
+/* A grammar at the limits. */
+static void limits(void) {
+    begin(512, 512, 7);
+    PROD(0, R(1));
+    for (uint32_t p = 1; p < 4096; p++) {
+        for (int i = 0; i < 4 && g.symbols_len < 16384; i++) add((uint16_t)below(511));
+        end((uint16_t)(1 + p % 511));
+    }
+    while (g.symbols_len < 16384) add(3), starts[4096]++;
 }
 
 static void reader(void) {
@@ -655,21 +654,69 @@ static void reader(void) {
     }
     g1_file(), file_len = 1024, file[512] = 1, seal(), expect("a block too many", read_refusal(), 23);
     g1_file(), file[7] = 2, seal(), expect("blocks missing", read_refusal(), 23);
-    begin_g1(), starts[2] = 2, write_file(), expect("file", read_refusal(), 2);
-    begin_g1(), owners[1] = 4, write_file(), expect("file", read_refusal(), 3);
-    begin_g1(), owners[1] = owners[2] = 1, write_file(), expect("file", read_refusal(), 4);
-    begin_g1(), symbols[1] = 3, write_file(), expect("file", read_refusal(), 5);
-    begin_g1(), symbols[0] = R(0), write_file(), expect("file", read_refusal(), 6);
-    begin(512, 512, 7);
-    PROD(0, R(1));
-    for (uint32_t p = 1; p < 4096; p++) {
-        for (int i = 0; i < 4 && g.symbols_len < 16384; i++) add((uint16_t)below(511));
-        end((uint16_t)(1 + p % 511));
-    }
-    while (g.symbols_len < 16384) add(3), starts[4096]++;
-    write_file();
+    begin_g1(), starts[2] = 2, make_file(), expect("file", read_refusal(), 2);
+    begin_g1(), owners[1] = 4, make_file(), expect("file", read_refusal(), 3);
+    begin_g1(), owners[1] = owners[2] = 1, make_file(), expect("file", read_refusal(), 4);
+    begin_g1(), symbols[1] = 3, make_file(), expect("file", read_refusal(), 5);
+    begin_g1(), symbols[0] = R(0), make_file(), expect("file", read_refusal(), 6);
+    limits();
+    make_file();
     expect("the largest file", file_len, 98 * BLOCK);
     expect("the largest file", read_refusal(), 0);
+}
+
+static void write_is(size_t room, uint32_t refusal, uint32_t value) {
+    call c = make(WRITE_BLOCKS);
+    c.bytes_len = room;
+    result r = run(&c);
+    expect("writer's refusal", r.refusal, refusal);
+    expect("writer's bytes", r.field[0], value);
+}
+
+/* What was written last is read as the grammar at hand. */
+static void reads_back(void) {
+    file_len = file_bytes(8 + 2 * (g.prods + g.starts_len + g.symbols_len) + g.tokens);
+    memcpy(file, bytes, file_len);
+    result r = read_into(4096, 4097, 16384, 512);
+    expect("read again: rules", r.field[0], g.rules);
+    expect("read again: tokens", r.field[1], g.tokens);
+    expect("read again: productions", r.field[2], g.prods);
+    expect("read again: symbols", r.field[3], g.symbols_len);
+    expect("read again: owners", !memcmp(read_owners, owners, 2 * g.prods), 1);
+    expect("read again: starts", !memcmp(read_starts, starts, 2 * g.starts_len), 1);
+    expect("read again: symbols", !memcmp(read_symbols, symbols, 2 * g.symbols_len), 1);
+    expect("read again: costs", !memcmp(read_costs, costs, g.tokens), 1);
+}
+
+static void writer(void) {
+    begin_g1();
+    for (size_t room = 0; room < 1100; room++) write_is(room, room < 512 ? 24 : 0, room < 512 ? 0 : 512);
+    expect("G1's check", pair(bytes + 510), 459);
+    reads_back();
+    /* 1 to 6 come before 24 */
+    static const size_t some[] = {0, 511, 600};
+    for (int i = 0; i < 3; i++) {
+        begin_g1(), g.rules = 1, write_is(some[i], 1, 0);
+        begin_g1(), starts[2] = 2, write_is(some[i], 2, 0);
+        begin_g1(), owners[1] = 4, write_is(some[i], 3, 0);
+        begin_g1(), owners[1] = owners[2] = 1, write_is(some[i], 4, 0);
+        begin_g1(), symbols[1] = 3, write_is(some[i], 5, 0);
+        begin_g1(), symbols[0] = R(0), write_is(some[i], 6, 0);
+    }
+    /* G1 with other than 4 tokens: 48 bytes of numbers and so many costs, so that 460 fill a block */
+    for (size_t tokens = 459; tokens < 462; tokens++) {
+        size_t len = tokens < 461 ? 512 : 1024;
+        begin_g1(), g.tokens = tokens;
+        write_is(len - 1, 24, 0);
+        write_is(len + 1, 0, (uint32_t)len);
+        write_is(len, 0, (uint32_t)len);
+        reads_back();
+    }
+    limits();
+    write_is(98 * BLOCK - 1, 24, 0);
+    write_is(98 * BLOCK + 1, 0, 98 * BLOCK);
+    write_is(98 * BLOCK, 0, 98 * BLOCK);
+    reads_back();
 }
 
 /* A well-formed grammar, small or with rows of several words. In a layered one a rule holds only the next
@@ -716,6 +763,12 @@ static void damage(void) {
     }
 }
 
+/* Room for the file of the grammar at hand, a byte less or more, or any. */
+static size_t any_room(void) {
+    size_t len = file_bytes(8 + 2 * (g.prods + g.starts_len + g.symbols_len) + g.tokens);
+    return below(3) && len < ROOM ? len - 1 + below(3) : below(below(2) ? 2000 : ROOM);
+}
+
 /* Random calls: tables of random words, then calls of one kind upon what earlier ones left. */
 static void random_calls(int grammars) {
     for (int n = 0; n < grammars; n++) {
@@ -726,13 +779,14 @@ static void random_calls(int grammars) {
             c.rule = (uint16_t)below(g.rules + 1u), c.to = (uint16_t)below(g.rules + 1u);
             c.token = (uint16_t)below((uint32_t)g.tokens + 1), c.prod = (uint16_t)below((uint32_t)g.prods + 1);
             c.mode = (uint16_t)(below(8) ? 1 + below(2) : below(4)), c.out_len = below(below(8) ? 60 : 100000);
+            c.bytes_len = any_room();
             size_t *len = &c.table_len[below(3)], right = *len;
             if (below(12) == 0) *len = right + below(3) - (right > 0);
             run(&c);
             *len = right;
         }
         if (g.rules && g.tokens < 60000 && below(3) == 0) {
-            write_file();
+            make_file();
             if (below(2)) file[below((uint32_t)file_len)] ^= (uint8_t)(1u << below(8));
             if (below(2)) seal();
             if (below(8) == 0) file_len += BLOCK;
@@ -750,6 +804,7 @@ int main(void) {
     list_lengths();
     numbers();
     reader();
+    writer();
     random_calls(4000);
     printf("test: %lu calls, %lu checks, %lu wrong\n", calls, checks, wrong);
     return wrong != 0;

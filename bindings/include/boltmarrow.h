@@ -50,6 +50,7 @@
  *  21  a block's check differs
  *  22  a block's number is not its place
  *  23  other than the blocks due, or a spare payload byte not zero
+ *  24  the buffer is too short for the grammar's block file
  *
  * The lowest number due is given (the file reader's order is 7, 20, 21, 22, 1, 23, 2 to 6). A
  * refusal leaves lent memory as found, but for what a call's line says.
@@ -178,6 +179,13 @@ boltmarrow_counts boltmarrow_read_blocks(const uint8_t *file, size_t file_len, u
                                          size_t owners_len, uint16_t *starts, size_t starts_len,
                                          uint16_t *symbols, size_t symbols_len, uint8_t *costs,
                                          size_t costs_len);
+
+/* Writes the grammar's block file, whole blocks of 512 bytes, to the front of `out` and keeps the
+ * rest; the answer is the number of bytes. `out` is room of any length; the largest file has
+ * 98 * 512 bytes, so that much is room for every grammar. Refusals 1 to 6, then 24 where `out` is
+ * too short; with each nothing is written. Reading the file gives the same grammar, and a file that
+ * was read is written with the same bytes. */
+boltmarrow_answer boltmarrow_write_blocks(BOLTMARROW_GRAMMAR, uint8_t *out, size_t out_len);
 
 #ifdef __cplusplus
 }

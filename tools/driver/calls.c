@@ -59,6 +59,7 @@ CALL(follow_clear, GRAMMAR, WORDS(4))
 CALL(follow_visit, GRAMMAR, c->number[1], PIDX(2), WORDS(4), WORDS(5), WORDS(6))
 CALL(follow_fill, GRAMMAR, c->number[1], WORDS(4), WORDS(5), WORDS(6))
 CALL(min_sentence, GRAMMAR, RIDX(1), WORDS(4), WORDS(5), WORDS(6), HALVES(7))
+CALL(write_blocks, GRAMMAR, BYTES(4))
 
 static void production(struct call *c) {
     boltmarrow_stretch said = boltmarrow_production(GRAMMAR, PIDX(1));
@@ -96,6 +97,7 @@ static const struct {
     {follow_visit, "nhhhbnnwww"},
     {follow_fill, "nhhhbnwww"},
     {min_sentence, "nhhhbnwwwh"},
+    {write_blocks, "nhhhbb"},
     {read_blocks, "bhhhb"},
 };
 

@@ -1,9 +1,14 @@
+use std::io;
+
 use crate::sys::{self, Flat};
 use crate::table::words;
 use crate::{
     CostTable, Costs, FirstTable, Firsts, FollowTable, Follows, Mode, PIdx, Productive, ProductiveTable, RIdx, Refusal,
     SIdx, SentenceGenerator, Symbol, TIdx,
 };
+
+/// The bytes of the largest block file: 98 blocks.
+const LARGEST_FILE: usize = 98 * 512;
 
 /// A well-formed grammar in document 01's flat form.
 #[derive(Clone, Debug, Eq, PartialEq)]
@@ -83,6 +88,36 @@ impl Grammar {
         symbols.truncate(counts.symbols as usize);
         costs.truncate(counts.tokens as usize);
         Ok(Grammar::checked(counts.rules as u16, owners, starts, symbols, costs))
+    }
+
+    /// The block file of this grammar: whole blocks of 512 bytes, with their numbers and checks. Reading it
+    /// ([`from_blocks`](Self::from_blocks)) gives this grammar again, and a file that was read is written with the
+    /// same bytes.
+    ///
+    /// ```
+    /// use boltmarrow::Grammar;
+    ///
+    /// // Rule 0, the start, is rule 1, which is nothing; the one token is eof.
+    /// let grm = Grammar::new(2, vec![0, 1], vec![0, 1, 1], vec![32769], vec![1])?;
+    /// let file = grm.to_blocks();
+    /// assert_eq!(file.len(), 512);
+    /// assert_eq!(Grammar::from_blocks(&file)?, grm);
+    /// # Ok::<(), boltmarrow::Refusal>(())
+    /// ```
+    pub fn to_blocks(&self) -> Vec<u8> {
+        let mut room = vec![0; LARGEST_FILE];
+        let len = sys::write_blocks(self.flat(), &mut room).number();
+        room[..len.expect("a checked grammar has a file, of 98 blocks at most") as usize].to_vec()
+    }
+
+    /// Writes the block file of this grammar, the bytes of [`to_blocks`](Self::to_blocks), to a file, or to whatever
+    /// else takes bytes.
+    ///
+    /// # Errors
+    ///
+    /// Where `to` cannot be written, its own error; the grammar gives none.
+    pub fn write_blocks(&self, to: &mut impl io::Write) -> io::Result<()> {
+        to.write_all(&self.to_blocks())
     }
 
     /// The grammar of tables that the library has checked.

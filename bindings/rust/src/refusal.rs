@@ -1,7 +1,7 @@
 use std::error::Error;
 use std::fmt;
 
-/// Why a call was refused. There is one for each refusal number of document 01; others may come.
+/// Why a call was refused. There is one for each refusal number of documents 01 and 02; others may come.
 #[derive(Clone, Copy, Debug, Eq, Hash, PartialEq)]
 #[non_exhaustive]
 pub enum Refusal {
@@ -44,6 +44,8 @@ pub enum Refusal {
     BlockNumber = 22,
     /// The file has other than the blocks due, or a spare byte that is not zero.
     BlocksDue = 23,
+    /// The buffer is too short for the grammar's block file. This crate lends no such buffer.
+    BufferLength = 24,
 }
 
 use Refusal::*;
@@ -70,9 +72,10 @@ impl Refusal {
         BlockCheck,
         BlockNumber,
         BlocksDue,
+        BufferLength,
     ];
 
-    /// Document 01's number.
+    /// The documents' number.
     pub fn number(self) -> u32 {
         self as u32
     }
@@ -83,7 +86,7 @@ impl Refusal {
             return Ok(());
         }
         let refusal = Refusal::ALL.iter().find(|refusal| refusal.number() == number);
-        Err(*refusal.expect("the library refuses by document 01's numbers"))
+        Err(*refusal.expect("the library refuses by the documents' numbers"))
     }
 
     /// What is wrong, for a person.
@@ -111,6 +114,7 @@ impl Refusal {
             BlockCheck => "a block of the file is damaged: its check does not fit its bytes",
             BlockNumber => "a block of the file is out of place: its number is not its position",
             BlocksDue => "the file has too few or too many blocks for its grammar, or something behind its end",
+            BufferLength => "the buffer is too short for the grammar's block file",
         }
     }
 }

@@ -6,6 +6,10 @@
 //! document 01 takes it anywhere. So a number's type changes alone: [`rule`], [`token`] and [`prod`] take cfgrammar's
 //! numbers, to ask about the flattened grammar; [`rule_of`], [`token_of`] and [`prod_of`] give them back, to ask the
 //! `YaccGrammar` about an answer, such as its names for the tokens of a sentence.
+//!
+//! What is flattened can be stored as a block file, with [`Grammar::to_blocks`] or [`Grammar::write_blocks`], and read
+//! again with [`Grammar::from_blocks`], without the grammar's text: it is the same grammar, with the same numbers. A
+//! block file has no names; those stay with the `YaccGrammar`.
 #![deny(missing_docs, unsafe_code)]
 #![warn(clippy::missing_errors_doc)]
 
@@ -14,7 +18,7 @@ use cfgrammar::yacc::YaccGrammar;
 use cfgrammar::{PIdx, RIdx, Symbol, TIdx};
 use num_traits::{AsPrimitive, PrimInt, Unsigned};
 
-/// The flat grammar of `grm`, with a cost for each token.
+/// The flat grammar of `grm`, with a cost for each token. [`Grammar::write_blocks`] stores it.
 ///
 /// # Errors
 ///

@@ -71,6 +71,20 @@ fn a_sentence_in_the_grammars_own_names() -> Result<(), Refusal> {
     Ok(())
 }
 
+/// What is flattened can be stored, and is read as the same grammar.
+#[test]
+fn a_flattened_grammar_is_stored_and_read() -> Result<(), Refusal> {
+    let names = "token digits\ntoken ,\ntoken unit\nrule Row\nrule Num\nrule Unit\nstart Row\n";
+    let prods = "prod Row rule:Num rule:Unit token:,\nprod Num token:digits\nprod Unit token:unit\nprod Unit";
+    let grm = yacc(&[names, prods].concat());
+    let flat = flatten(&grm, |tidx| 1 + tidx.as_storaget() as u8)?;
+    let stored = Grammar::from_blocks(&flat.to_blocks())?;
+    assert_eq!(stored, flat);
+    let (num, comma) = (grm.rule_idx("Num").unwrap(), grm.token_idx(",").unwrap());
+    assert!(stored.follows(Mode::Corrected).is_set(rule(num), token(comma))?);
+    Ok(())
+}
+
 /// Numbers of one byte: one that is not there is refused, and not cut to one that is.
 #[test]
 fn the_way_back_refuses_what_is_not_there() {
@@ -211,6 +225,7 @@ fn examples_have_the_crates_own_answers() {
         let (renumbered, grm) = as_the_crate(example);
         let flat = flatten(&grm, |tidx| renumbered.token_cost(token(tidx)).unwrap()).unwrap();
         assert_eq!(flat, renumbered, "{name}");
+        assert_eq!(Grammar::from_blocks(&flat.to_blocks()), Ok(renumbered), "{name}");
         numbers_go_back(&name, &flat, &grm);
         marks_are_equal(&name, &flat, &grm);
         paths_are_equal(&name, &flat, &grm);

@@ -1,4 +1,4 @@
-//! What no safe call can do: tables of other lengths and other modes, for each call that takes one.
+//! What no safe call can do: tables of other lengths, short buffers and other modes, for each call that takes one.
 use super::*;
 
 const G1: Flat = Flat {
@@ -54,6 +54,21 @@ fn seven_for_the_readers_lists() {
     assert_eq!(counts.told().err(), Some(Refusal::TableLength));
 }
 
+/// Buffers as long as G1's file, a byte short of it, a byte longer, and none.
+#[test]
+fn twenty_four_for_a_short_buffer() {
+    for len in [0, 1, 511] {
+        let mut out = vec![9; len];
+        assert_eq!(refused(write_blocks(G1, &mut out)), 24, "{len} bytes");
+        assert_eq!(out, vec![9; len]);
+    }
+    let (mut exact, mut longer) = ([9; 512], [9; 513]);
+    assert_eq!(write_blocks(G1, &mut exact).number(), Ok(512));
+    assert_eq!(write_blocks(G1, &mut longer).number(), Ok(512));
+    assert_eq!((&longer[..512], longer[512]), (&exact[..], 9));
+    assert_eq!(exact[510..], 459u16.to_le_bytes());
+}
+
 #[test]
 fn eight_for_other_modes() {
     for mode in [0, 3, 65535] {
@@ -75,6 +90,11 @@ fn a_refused_grammar_ends_every_call_first() {
     assert_eq!(refused(follow_visit(wrong, 9, 99, &mut table, &[], &empty)), 1);
     assert_eq!(refused(min_sentence(wrong, 9, &mut table, &mut [], &mut [], &mut [])), 1);
     assert_eq!(table, [9; 3]);
+    for len in [0, 511, 600] {
+        let mut out = vec![9; len];
+        assert_eq!(refused(write_blocks(wrong, &mut out)), 1, "{len} bytes");
+        assert_eq!(out, vec![9; len]);
+    }
 }
 
 #[test]

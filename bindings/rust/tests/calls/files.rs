@@ -1,7 +1,11 @@
-//! Block files, right and damaged.
+//! Block files: right, damaged, and written.
+use std::fs;
+use std::io::{self, ErrorKind, Write};
+use std::path::{Path, PathBuf};
+
 use boltmarrow::{Grammar, Refusal};
 
-use crate::grammars::{g1, g1_tables, Tables};
+use crate::grammars::{g1, g1_tables, of, Tables};
 
 /// A payload of document 01's order.
 fn payload((rules, owners, starts, symbols, costs): &Tables) -> Vec<u8> {
@@ -84,4 +88,89 @@ fn one_to_six_are_for_its_grammar() {
     assert_eq!(changed(|g1| g1.1[0] = 2), Some(Refusal::NoProduction));
     assert_eq!(changed(|g1| g1.3[1] = 3), Some(Refusal::Symbol));
     assert_eq!(changed(|g1| g1.3[0] = 32768), Some(Refusal::Start));
+}
+
+#[test]
+fn g1_is_written_as_its_block() {
+    let file = g1().to_blocks();
+    assert_eq!(file, blocks(&payload(&g1_tables())));
+    assert_eq!((file.len(), &file[510..]), (512, &459u16.to_le_bytes()[..]));
+}
+
+/// G1 with so many tokens is 48 bytes of numbers and their costs: 460 fill a block.
+#[test]
+fn what_was_written_is_read_as_the_same_grammar() {
+    for (tokens, len) in [(4, 512), (459, 512), (460, 512), (461, 1024), (512, 1024)] {
+        let mut tables = g1_tables();
+        tables.4 = (0..tokens).map(|t| t as u8).collect();
+        let (grm, file) = (of(tables.clone()).unwrap(), blocks(&payload(&tables)));
+        assert_eq!(file.len(), len);
+        assert_eq!(grm.to_blocks(), file, "{tokens} tokens");
+        assert_eq!(Grammar::from_blocks(&file), Ok(grm), "{tokens} tokens");
+    }
+}
+
+/// The block files of a folder of examples/.
+fn files(folder: &str) -> Vec<PathBuf> {
+    let folder = Path::new(env!("CARGO_MANIFEST_DIR")).join("../../examples").join(folder);
+    let paths = fs::read_dir(folder).expect("examples/ is there").map(|entry| entry.unwrap().path());
+    paths.filter(|path| path.extension().map_or(false, |extension| extension == "blk")).collect()
+}
+
+/// Every stored file that is read, of any folder, is written as it was.
+#[test]
+fn what_was_read_is_written_as_the_same_bytes() {
+    let (mut read, mut refused) = (0, 0);
+    for path in ["", "largest", "refused"].into_iter().flat_map(files) {
+        let file = fs::read(&path).unwrap();
+        match Grammar::from_blocks(&file) {
+            Ok(grm) => {
+                assert!(grm.to_blocks() == file, "{}", path.display());
+                read += 1;
+            }
+            Err(_) => refused += 1,
+        }
+    }
+    // 12 grammars and the largest; the file that is a byte longer is refused
+    assert!(read >= 13 && refused >= 1, "{read} read, {refused} refused");
+}
+
+#[test]
+fn the_largest_file_is_98_blocks() {
+    let path = files("largest").into_iter().find(|path| path.ends_with("98-blocks.blk")).unwrap();
+    let file = Grammar::from_blocks(&fs::read(path).unwrap()).unwrap().to_blocks();
+    assert_eq!(file.len(), 98 * 512);
+}
+
+/// Takes so many bytes, and then fails.
+struct Full(usize);
+
+impl Write for Full {
+    fn write(&mut self, bytes: &[u8]) -> io::Result<usize> {
+        let taken = bytes.len().min(self.0);
+        self.0 -= taken;
+        if taken == 0 {
+            return Err(io::Error::new(ErrorKind::Other, "the disk is full"));
+        }
+        Ok(taken)
+    }
+
+    fn flush(&mut self) -> io::Result<()> {
+        Ok(())
+    }
+}
+
+#[test]
+fn a_file_is_written_to_what_takes_bytes() {
+    let mut bytes = vec![7];
+    g1().write_blocks(&mut bytes).unwrap();
+    assert_eq!((bytes[0], &bytes[1..]), (7, &g1().to_blocks()[..]));
+    assert!(g1().write_blocks(&mut Full(512)).is_ok());
+    for room in [0, 1, 511] {
+        let error = g1().write_blocks(&mut Full(room)).unwrap_err();
+        assert_eq!((error.kind(), error.to_string()), (ErrorKind::Other, "the disk is full".to_string()));
+    }
+    let mut short = [0; 511];
+    let error = g1().write_blocks(&mut &mut short[..]).unwrap_err();
+    assert_eq!(error.kind(), ErrorKind::WriteZero);
 }

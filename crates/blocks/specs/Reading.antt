@@ -45,6 +45,7 @@ unlessFile file x =
     (unless (blocksWrong file (countsOf file)) 23
     (unless (tokenFree (countsOf file .version) (grammarOf file (countsOf file) .costs)) 25 x)))))
 
+-- a file's own refusals
 abbrev pub fileDue : List ℕ → Outcome (Unit {0})
 fileDue file = unlessFile file (answers tt)
 

@@ -13,7 +13,7 @@ use Rattle.grammar.specs.Outcome.{answers}
 use Rattle.grammar.proofs.Outcomes.{not-both, answers-one}
 use Rattle.tables.specs.Append.{Appended, Writes}
 use Rattle.tables.specs.Call.{Call}
-use Rattle.tables.proofs.Appending.{appended-none, appended-long, appended-then}
+use Rattle.tables.proofs.Appending.{appended-none, appended-long, appended-then, writes}
 use Rattle.tables.specs.declared.Written.{Written}
 use Rattle.tables.specs.declared.Written.the-variants.{Bytes, Refused}
 use Rattle.lines.specs.Append.{Room}
@@ -22,7 +22,6 @@ use Rattle.lines.specs.Lent.{Tables, outWrong, entryOf}
 use Rattle.tables.specs.Answers.{writtenIs}
 use Rattle.lines.specs.Calls.{outDue, Heading, RefusedLine, Line}
 use Rattle.lines.specs.Report.{none, more, GrammarReport}
-use Rattle.tables.proofs.Appending.{writes}
 use Rattle.lines.proofs.Length.{line-short, refused-long}
 use Rattle.lines.proofs.Printing.{line-due}
 use Rattle.lines.proofs.Saying.{line-says}

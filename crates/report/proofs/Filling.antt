@@ -17,11 +17,11 @@ use Rattle.follows.specs.Calls.{Full, fillDue, Fill as FillSets}
 use Rattle.follows.specs.Lent.{lent}
 use Rattle.costs.specs.Calls.{FillProductive, Fill as FillCost}
 use Rattle.costs.specs.Defined.{RowFillable, CostFillable, ProductiveDefined, CostDefined}
-use Rattle.lines.specs.Lent.{Tables, tables}
+use Rattle.lines.specs.Lent.{tables}
 use Rattle.lines.proofs.Saying.{fills-define}
 use Rattle.report.specs.Steps.{SetsFillable, Fillable, Ready}
 
--- the fronts of lists with room for the largest tables
+-- the tables of a grammar are the fronts of lists with room for the largest
 pub zeros : (n : ℕ) → n ≤ length {A = ℕ} (replicate n 0)
 zeros n = omega (arith, length-replicate {0} {A = ℕ} n 0)
 
@@ -45,10 +45,11 @@ fronts-fillable g x n w k en ew ek =
       cost-long = front-long n _ (replicate 512 0) en (omega (arith, few, zeros 512));
     }
 
--- the filled tables
+-- all of them filled
 pub filled-ready : (g : Flat) → WellFormed g → (empty first follow productive cost : List ℕ) → Full g 2 (lent follow (firsts first empty)) → ProductiveDefined g productive → CostDefined g cost → Ready g (tables empty first follow productive cost)
 filled-ready g x empty first follow productive cost f p c = record { well = x; defined = fills-define g empty first follow productive cost f p c }
 
+-- each fill leaves its tables, whatever it answers: no refusal is due
 module _ (g : Flat) where
   sets-due : (follow first empty : List ℕ) → SetsFillable g follow first empty → fillDue g 2 (lent follow (firsts first empty)) ≡ answers tt
   sets-due follow first empty f =

@@ -20,10 +20,11 @@ use Rattle.report.specs.declared.Got.the-variants.{Bytes as Read}
 pub record Fits (room : ℕ) (got : Got) : Type 0 where
   pub most : (n : ℕ) → got ≡ Read n → n ≤ room
 
--- the longest line of a rule, the heading and 512 of these
+-- room for the line of any rule
 abbrev pub lineRoom : ℕ
 lineRoom = 3888
 
+-- room for any report: the heading and 512 lines
 abbrev pub reportRoom : ℕ
 reportRoom = 29 + 512 * lineRoom
 
@@ -32,7 +33,7 @@ abbrev pub lineIn : Written → List ℕ → List ℕ
 lineIn (Bytes n) buffer = take n buffer
 lineIn (Refused n) buffer = []
 
--- the buffer is as long as that line
+-- the buffer is at least as long as that line
 pub record Stands (written : Written) (buffer : List ℕ) : Type 0 where
   pub most : (n : ℕ) → written ≡ Bytes n → n ≤ length buffer
 

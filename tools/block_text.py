@@ -9,10 +9,11 @@ blocks = importlib.util.module_from_spec(importlib.util.spec_from_loader("blocks
 LOADER.exec_module(blocks)
 
 
-def text_of(g):
-    """A well-formed grammar (plain.Grammar) as the text that bin/blocks writes a file from."""
+def text_of(g, version=1):
+    """A well-formed grammar (plain.Grammar) as the text that bin/blocks writes a file of this version from."""
     tokens, rules = [f"t{t}" for t in range(len(g.costs))], [f"r{r}" for r in range(g.rules)]
     lines = ["tokens " + " ".join(f"{name}={cost}" for name, cost in zip(tokens, g.costs)), "rules " + " ".join(rules)]
+    lines += [f"version {version}"] * (version != 1)
     for owner, start, end in zip(g.owners, g.starts, g.starts[1:]):
         body = (tokens[s] if s < blocks.RULE else rules[s - blocks.RULE] for s in g.symbols[start:end])
         lines.append(f"{rules[owner]}: {' '.join(body)}")

@@ -215,9 +215,12 @@ def min_sentence(g, rule, productive, cost, lengths, out):
     return [len(sentence)]
 
 
-def write_blocks(g, out):
+def write_blocks(g, version, out):
+    if version not in (1, 2):
+        raise Refused(26)
     plain.check(g)
-    file = blocks.write(text_of(g))
+    plain.check_costs(version, g.costs)
+    file = blocks.write(text_of(g, version))
     if len(out) < len(file):
         raise Refused(24)
     out[: len(file)] = file
@@ -227,11 +230,11 @@ def write_blocks(g, out):
 def read_blocks(file, *lists):
     if tuple(len(each) for each in lists) != LISTS:
         raise Refused(7)
-    g = plain.read_tables(bytes(file))
+    version, g = plain.read_tables(bytes(file))
     for each, front in zip(lists, (g.owners, g.starts, g.symbols, g.costs)):
         each[: len(front)] = front
     plain.check(g)
-    return [g.rules, len(g.costs), len(g.owners), len(g.symbols)]
+    return [g.rules, len(g.costs), len(g.owners), len(g.symbols), version]
 
 
 # In the order of the driver's table (tools/driver/calls.c). The last one takes no grammar, but a file and four lists.
@@ -255,8 +258,8 @@ CALLS = {
     "follow_visit": Call("mode prod marks marks row", (7, 8, 11), 1, follow_visit),
     "follow_fill": Call("mode marks marks row", (7, 8), 1, follow_fill),
     "min_sentence": Call("rule row entries entries room", (7, 9, 12, 13, 14, 15), 1, min_sentence),
-    "write_blocks": Call("bytes", (24,), 1, write_blocks),
-    "read_blocks": Call("", (7, 20, 21, 22, 23), 4, read_blocks),
+    "write_blocks": Call("version bytes", (24, 25, 26), 1, write_blocks),
+    "read_blocks": Call("", (7, 20, 21, 22, 23, 25), 5, read_blocks),
 }
 
 

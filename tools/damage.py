@@ -4,9 +4,10 @@
 
 A call's grammar is of a shape of tools/grammars.py, as it is or with refusals made due, one or two, or a list cut,
 lengthened, emptied or with an entry replaced. Tables hold anything, spare bits and entries above 65536 included, and
-may be of a wrong length; numbers may be out of range, room short. A block file has what a file can have wrong; one that
-is written must be bin/blocks' own. The answer and every element of every list must be equal. It prints how often each call gave each refusal, 0 for an answer;
-it exits with 1 if an answer differs, or if of the usual number of calls none gave some refusal that the call can give.
+may be of a wrong length; numbers may be out of range, room short. A block file is of either version and has what a file
+can have wrong; one that is written must be bin/blocks' own. The answer and every element of every list must be equal. It
+prints how often each call gave each refusal, 0 for an answer; it exits with 1 if an answer differs, or if of the usual
+number of calls none gave some refusal that the call can give.
 """
 import array
 import collections
@@ -80,7 +81,8 @@ def number_below(draw, count):
     return draw.choice((min(count, MOST), MOST, draw.randint(0, MOST)))
 
 
-def any_mode(draw):
+def one_or_two(draw):
+    """A mode or a version: 1 or 2 in most cases, else another number."""
     return draw.choice((1, 2)) if draw.random() < 0.85 else draw.choice((0, 3, MOST, draw.randint(0, MOST)))
 
 
@@ -137,7 +139,8 @@ PARAMETERS = {
     "rule": lambda draw, g, _: number_below(draw, g.rules),
     "token": lambda draw, g, _: number_below(draw, len(g.costs)),
     "prod": lambda draw, g, _: number_below(draw, len(g.owners)),
-    "mode": lambda draw, g, _: any_mode(draw),
+    "mode": lambda draw, g, _: one_or_two(draw),
+    "version": lambda draw, g, _: one_or_two(draw),
     "marks": lambda draw, g, _: any_marks(draw, calls.marks_length(g)),
     "row": lambda draw, g, _: any_marks(draw, calls.row_length(g)),
     "entries": lambda draw, g, _: any_entries(draw, calls.cost_length(g)),
@@ -166,12 +169,15 @@ def any_counts(draw, counts):
     """The counts, or with one of them at or beyond a limit."""
     if draw.random() < 0.9:
         return counts
-    return grammars.replaced(draw, counts, draw.choice((0, 1, 2, 512, 513, 4096, 4097, 16384, 16385, MOST)))
+    edges = 0, 1, 2, 512, 513, 4096, 4097, 16384, 16385, MOST
+    return grammars.replaced(draw, counts, draw.choice((*edges, *(plain.VERSION + edge for edge in edges[:5]))))
 
 
 def payload_of(draw, g):
-    """The payload that says a grammar, with zeros to the end of its last block; now and then another byte."""
-    sizes = [g.rules, len(g.costs), len(g.owners), len(g.symbols)]
+    """The payload that says a grammar in some version, with zeros to the end of its last block; now and then another
+    byte."""
+    field = g.rules + draw.choice((0, plain.VERSION)) if g.rules < plain.VERSION else g.rules
+    sizes = [field, len(g.costs), len(g.owners), len(g.symbols)]
     numbers = any_counts(draw, sizes) + g.owners + g.starts + g.symbols
     said = struct.pack(f"<{len(numbers)}H", *numbers) + bytes(g.costs)
     payload = bytearray(said.ljust(-(-len(said) // 508) * 508, b"\0"))
@@ -180,10 +186,18 @@ def payload_of(draw, g):
     return payload
 
 
+def stored(draw, g):
+    """The grammar to be stored: in two of three without free tokens, eof now and then excepted, and of these in one of
+    four with one."""
+    if not g.costs or draw.random() < 0.33:
+        return g
+    costs = [cost or 1 for cost in g.costs[:-1]] + [draw.choice((0, g.costs[-1]))]
+    return g._replace(costs=costs if draw.random() < 0.75 else grammars.replaced(draw, costs, 0))
+
+
 def any_file(draw):
     """The bytes of a block file, right or wrong."""
-    g = any_grammar(draw)
-    payload = payload_of(draw, g)
+    payload = payload_of(draw, stored(draw, any_grammar(draw)))
     if draw.random() < 0.15:
         payload = draw.choice((payload[:-508], payload + bytes(508), payload * 4, payload.ljust(98 * 508, b"\0"),
                                payload.ljust(99 * 508, b"\0"), draw.randbytes(508)))
@@ -212,8 +226,9 @@ def any_call(draw):
     if name == "read_blocks":
         return name, [list(any_file(draw)), *any_lists(draw)]
     g = any_grammar(draw, TELLING.get(name, QUICK) if draw.random() < 0.6 else QUICK)
-    if name == "write_blocks" and draw.random() < 0.3:
-        g = g._replace(costs=[255] * len(g.costs))  # so that a block's bytes add up to more than 65535
+    if name == "write_blocks":
+        # in some all tokens are dear, so that a block's bytes add up to more than 65535
+        g = g._replace(costs=[255] * len(g.costs)) if draw.random() < 0.3 else stored(draw, g)
     return name, [g, *parameters(draw, name, g)]
 
 
@@ -272,7 +287,7 @@ def table(counts):
 
 
 def never(counts):
-    """What a call can answer by document 01 and did not."""
+    """What a call can answer by the documents and did not."""
     for name, call in calls.CALLS.items():
         for number in (0, *range(1, 7), *call.refusals):
             if not counts[name, number]:

@@ -1,6 +1,7 @@
 #!/usr/bin/env python3
-"""Document 01 once more, plain and slow: sets, recursion and whole numbers of any size. It is written from that text,
-with the readings of its open points in docs/DECISIONS.md, and from no crate.
+"""Document 01 once more, plain and slow: sets, recursion and whole numbers of any size; of document 02 the versions of
+the block file. It is written from those texts, with the readings of their open points in docs/DECISIONS.md, and from no
+crate.
 
     tools/plain.py report FILE         the report of a block file; '-' stands for standard input
 
@@ -13,6 +14,7 @@ import sys
 from typing import NamedTuple
 
 RULE = 32768
+VERSION = 32768  # what a version 2 file has added to its R field
 MOST = 65535
 HEADING = "rule,empty,first,follow,cost"
 
@@ -347,8 +349,14 @@ def low_first(data):
     return data[0] + 256 * data[1]
 
 
+def check_costs(version, costs):
+    """25: in version 2 a token other than eof, the last, costs nothing."""
+    if version == 2 and 0 in costs[:-1]:
+        raise Refused(25)
+
+
 def read_tables(data):
-    """The grammar that a block file says, well formed or not; refusals 20, 21, 22, 1 and 23."""
+    """A block file's version and the grammar that it says, well formed or not; refusals 20, 21, 22, 1, 23 and 25."""
     if not data or len(data) % 512 or len(data) > 98 * 512:
         raise Refused(20)
     blocks = [data[k : k + 512] for k in range(0, len(data), 512)]
@@ -357,20 +365,22 @@ def read_tables(data):
     if any(low_first(block) != k for k, block in enumerate(blocks)):
         raise Refused(22)
     payload = b"".join(block[2:510] for block in blocks)
-    R, T, P, N = (low_first(payload[2 * k :]) for k in range(4))
+    field, T, P, N = (low_first(payload[2 * k :]) for k in range(4))
+    version, R = (2, field - VERSION) if field >= VERSION else (1, field)
     if not in_limits(R, T, P, N):
         raise Refused(1)
     numbers = 4 + P + (P + 1) + N
     due = 2 * numbers + T
     if len(blocks) != (due + 507) // 508 or any(payload[due:]):
         raise Refused(23)
-    said = [low_first(payload[2 * k :]) for k in range(4, numbers)]
-    return Grammar(R, said[:P], said[P : 2 * P + 1], said[2 * P + 1 :], list(payload[2 * numbers : due]))
+    said, costs = [low_first(payload[2 * k :]) for k in range(4, numbers)], list(payload[2 * numbers : due])
+    check_costs(version, costs)
+    return version, Grammar(R, said[:P], said[P : 2 * P + 1], said[2 * P + 1 :], costs)
 
 
 def read(data):
-    """The well-formed grammar that a block file says; refusals 20, 21, 22, 1, 23, then 2 to 6."""
-    g = read_tables(data)
+    """The well-formed grammar that a block file of either version says; refusals 20, 21, 22, 1, 23, 25, then 2 to 6."""
+    _, g = read_tables(data)
     check(g)
     return g
 

@@ -29,6 +29,9 @@ raw counts 600 4 6 7
 raw counts 65535 4 6 7
 raw counts 4 9 65535 7
 raw counts 0 0 0 0
+raw counts 32768 4 6 7
+raw counts 33281 4 6 7
+version 2
 raw blocks 0
 raw blocks 3
 raw blocks 99
@@ -58,7 +61,11 @@ REFUSED = {
     "raw counts 1 2 3": "line 1: 'raw counts' takes 4 numbers",
     "raw sums 1": "line 1: 'raw sums' is not known",
     "raw owners 1\nraw owners 1": "line 2: 'raw owners' is there already",
-    "byte 3": "line 1: 'byte 3' is no line of tokens, rules, raw or byte, and no production",
+    "byte 3": "line 1: 'byte 3' is no line of tokens, rules, version, raw or byte, and no production",
+    "version 3": "line 1: there is no version 3",
+    "version 02": "line 1: there is no version 02",
+    "version 2\nversion 2": "line 2: the version is there already",
+    "version": "line 1: 'version' is no line of tokens, rules, version, raw or byte, and no production",
     "byte! 512 1": "byte 512 is past the end: the file has 512 bytes",
     "raw owners 1*65535 1": "a list of 65536 is too long for a 16-bit count; 'raw counts' can say another",
 }
@@ -73,6 +80,12 @@ class Blocks(unittest.TestCase):
         flat = "4 4 6 7  1 2 2 3 3 0  0 3 4 4 6 6 7  32770 0 32771 2 1 0 32769"
         block = struct.pack("<25H4B", 0, *map(int, flat.split()), 1, 1, 1, 1).ljust(510, b"\0")
         self.assertEqual(blocks.write(G1), block + struct.pack("<H", 459))
+
+    def test_a_version_2_file_has_32768_added_to_its_r_field(self):
+        one, two = blocks.write(G1 + "version 1"), blocks.write(G1 + "version 2")
+        self.assertEqual(one, blocks.write(G1))
+        self.assertEqual(two, one[:2] + struct.pack("<H", 32772) + one[4:510] + struct.pack("<H", 587))
+        self.assertEqual([data for data in (one, two) if "version 2" in blocks.show(data).splitlines()], [two])
 
     def test_each_example_is_its_text(self):
         for path in GRAMMARS + REFUSALS:
@@ -98,7 +111,8 @@ class Blocks(unittest.TestCase):
         for path in [*EXAMPLES.glob("*.blk"), EXAMPLES / "largest" / "98-blocks.blk"]:
             with self.subTest(path.name):
                 data = path.read_bytes()
-                self.assertEqual(blocks.write(text_of(plain.read_tables(data))), data)
+                version, g = plain.read_tables(data)
+                self.assertEqual(blocks.write(text_of(g, version)), data)
 
     def test_refused_examples_say_their_number(self):
         for path in REFUSALS:

@@ -91,9 +91,21 @@ class Calls(unittest.TestCase):
 
     def test_file(self):
         lists = [[9] * length for length in calls.LISTS]
-        file = list((EXAMPLES / "g1.blk").read_bytes())
-        self.assertEqual(calls.answer("read_blocks", [file, *lists]), [0, 4, 4, 6, 7])
-        self.assertEqual(lists[0][:7], [1, 2, 2, 3, 3, 0, 9])
+        for version, name in (1, "g1"), (2, "g1-v2"):
+            file = list((EXAMPLES / f"{name}.blk").read_bytes())
+            self.assertEqual(calls.answer("read_blocks", [file, *lists]), [0, 4, 4, 6, 7, version])
+            self.assertEqual(lists[0][:7], [1, 2, 2, 3, 3, 0, 9])
+            out = [9] * 600
+            self.assertEqual(calls.answer("write_blocks", [G1, version, out]), [0, 512])
+            self.assertEqual(out, file + [9] * 88)
+
+    def test_the_writers_order(self):
+        free, wrong = G1._replace(costs=[1, 0, 1, 1]), G1._replace(rules=1, costs=[0] * 4)
+        for version, g, room, number in (
+            (0, wrong, 0, 26), (3, free, 511, 26), (65535, G1, 512, 26), (2, wrong, 0, 1), (1, wrong, 0, 1),
+            (2, free, 511, 25), (2, free, 512, 25), (1, free, 511, 24), (2, G1, 511, 24),
+        ):
+            self.assertEqual(calls.answer("write_blocks", [g, version, [9] * room]), [number, 0])
 
 
 if __name__ == "__main__":

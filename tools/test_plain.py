@@ -182,15 +182,23 @@ class Plain(unittest.TestCase):
         def other(at, value):
             return block_file(flat[:at] + [value] + flat[at + 1 :], ones)
 
-        next_block = block_file([], b"", 1)
+        def second(costs, at=0, value=4 + 32768, rest=b""):
+            numbers = [4 + 32768] + flat[1:]
+            return block_file(numbers[:at] + [value] + numbers[at + 1 :], bytes(costs) + rest)
+
+        next_block, free = block_file([], b"", 1), [1, 0, 1, 1]
         files = {
-            0: [g1],
+            0: [g1, block_file(flat, bytes(4)), second(ones), second([1, 1, 1, 0])],
             20: [b"", g1[:511], g1 + b"\0", g1 * 99],
             21: [g1[:511] + b"\0", g1[:300] + b"\1" + g1[301:], block_file(flat, ones, 1) + g1[:511] + b"\0"],
             22: [block_file(flat, ones, 1), g1 * 2, g1 * 98, block_file([0], b"", 2)],
-            1: [other(0, 1), other(1, 0), other(2, 4097), other(3, 16385), other(0, 1) + next_block],
-            23: [g1 + next_block, block_file(flat, ones + b"\1"), other(1, 512)],
-            2: [other(10, 1), other(11, 5)],
+            1: [other(0, 1), other(1, 0), other(2, 4097), other(3, 16385), other(0, 1) + next_block,
+                other(0, 32768), other(0, 32769), other(0, 32768 + 513), other(0, 65535), second(free, 0, 32768)],
+            23: [g1 + next_block, block_file(flat, ones + b"\1"), other(1, 512), second(free, rest=b"\1"),
+                 second(free) + next_block],
+            25: [second(free), second([0, 1, 1, 1]), second([1, 1, 0, 1]), second(bytes(4)), second(free, 10, 1),
+                 second(free, 4, 4), second(free, 9, 1), second(free, 17, 3), second(free, 17, 32768)],
+            2: [other(10, 1), other(11, 5), second(ones, 10, 1)],
             3: [other(4, 4)],
             4: [other(9, 1)],
             5: [other(17, 3), other(17, 32772)],

@@ -122,14 +122,15 @@ class Case:
             return answer + ", kept"
         return answer + "".join(map(front, ("owners", "starts", "symbols", "costs"), lists, OLD))
 
-
-    def write(self, room):
+    def write(self, room, version):
         out = [OLD[3]] * room
-        refusal, length = calls.answer("write_blocks", [self.grammar, out])
+        refusal, length = calls.answer("write_blocks", [self.grammar, version, out])
         self.file, past = bytearray(out[:length]), out[length:]
         answer = f" refused {refusal}" if refusal else f" {length}; {checks(self.file)}; "
         if not refusal:
-            answer += f"{'as' if self.file == file_of(self.grammar, length) else 'other than'} file({length})"
+            step = [length, 2, 32768 + self.grammar.rules] if version == 2 else [length]
+            same = self.file == file_of(self.grammar, *step)
+            answer += f"{'as' if same else 'other than'} file({said(step)[1:]})"
         return f"{answer}; {len(past)} {'kept' if set(past) <= {OLD[3]} else 'lost'}"
 
 

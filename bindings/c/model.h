@@ -1,11 +1,12 @@
-/* Document 01 once more in C, with the file writer of document 02, plain and slow, to compare the library with. It is
- * written from those texts, with the readings of their open points in docs/DECISIONS.md, and from no crate. A call
- * names an exported function and holds what it is lent; `model` makes the call on those lists. */
+/* Document 01 once more in C, with the file writer and the versions of document 02, plain and slow, to compare the
+ * library with. It is written from those texts, with the readings of their open points in docs/DECISIONS.md, and from
+ * no crate. A call names an exported function and holds what it is lent; `model` makes the call on those lists. */
 #include <stddef.h>
 #include <stdint.h>
 #include <string.h>
 
 enum { RULE = 32768, MOST = 65535, NONE = 65536, UNGROUNDED = 65537 };
+enum { VERSION_2 = 32768 }; /* what a version 2 file has added to its R field */
 
 typedef struct {
     uint16_t rules;
@@ -45,7 +46,7 @@ static const char *const tables_of[OPS] = {"",  "",  "T",  "E", "TE", "TE",  "TE
 typedef struct {
     op op;
     grammar g;
-    uint16_t rule, token, prod, mode, to; /* those that the call takes */
+    uint16_t rule, token, prod, mode, to, version; /* those that the call takes */
     uint32_t *table[3];
     size_t table_len[3];
     uint16_t *out;
@@ -56,16 +57,16 @@ typedef struct {
 
 /* What any call answers: the refusal, then the other fields of its struct. */
 typedef struct {
-    uint32_t refusal, field[4];
+    uint32_t refusal, field[5];
 } result;
 
 static result refused(uint32_t number) {
-    result r = {number, {0, 0, 0, 0}};
+    result r = {number, {0}};
     return r;
 }
 
 static result answered(uint32_t value) {
-    result r = {0, {value, 0, 0, 0}};
+    result r = {0, {value}};
     return r;
 }
 
@@ -341,9 +342,17 @@ static void put_checks(uint8_t *file, size_t len) {
     for (uint8_t *b = file; b < file + len; b += BLOCK) put_pair(b + 510, block_sum(b));
 }
 
-/* The block file of a grammar, well formed or not, of which starts has P+1 numbers; its length. */
-static size_t write_file(const grammar *g, uint8_t *file) {
-    uint16_t head[] = {g->rules, (uint16_t)g->tokens, (uint16_t)g->prods, (uint16_t)g->symbols_len};
+/* Whether a token other than eof, the last, costs nothing. */
+static int has_free_token(const uint8_t *costs, size_t tokens) {
+    for (size_t t = 0; t + 1 < tokens; t++)
+        if (costs[t] == 0) return 1;
+    return 0;
+}
+
+/* The block file of a grammar, well formed or not, of which starts has P+1 numbers, in version 1 or 2; its length. */
+static size_t write_file(const grammar *g, int version, uint8_t *file) {
+    uint16_t field = (uint16_t)(version == 2 ? g->rules + VERSION_2 : g->rules);
+    uint16_t head[] = {field, (uint16_t)g->tokens, (uint16_t)g->prods, (uint16_t)g->symbols_len};
     size_t len = file_bytes(8 + 2 * (g->prods + g->prods + 1 + g->symbols_len) + g->tokens), at;
     memset(file, 0, len);
     for (size_t b = 0; b < len / BLOCK; b++) put_pair(file + b * BLOCK, (uint32_t)b);
@@ -358,7 +367,8 @@ static size_t write_file(const grammar *g, uint8_t *file) {
 
 static result write_model(call *c) {
     static uint8_t file[98 * BLOCK];
-    size_t len = write_file(&c->g, file);
+    if (c->version == 2 && has_free_token(c->g.costs, c->g.tokens)) return refused(25);
+    size_t len = write_file(&c->g, c->version, file);
     if (c->bytes_len < len) return refused(24);
     memcpy(c->bytes, file, len);
     return answered((uint32_t)len);
@@ -372,6 +382,7 @@ static uint32_t refusal_of(const call *c) {
                c->op == MIN_SENTENCE;
     int prod = c->op == PRODUCTION || c->op == FIRST_VISIT || c->op == PRODUCTIVE_VISIT || c->op == COST_VISIT ||
                c->op == FOLLOW_VISIT;
+    if (c->op == WRITE_BLOCKS && c->version != 1 && c->version != 2) return 26;
     if (number) return number;
     for (size_t i = 0; i < strlen(tables_of[c->op]); i++)
         if (c->table_len[i] != length_of(tables_of[c->op][i], g)) return 7;
@@ -386,7 +397,7 @@ static uint32_t refusal_of(const call *c) {
 static result model(call *c) {
     const grammar *g = &c->g;
     uint32_t *a = c->table[0], *b = c->table[1], number = refusal_of(c);
-    result r = {0, {0, 0, 0, 0}};
+    result r = {0, {0}};
     if (number) return refused(number);
     switch (c->op) {
     case CHECK:
@@ -465,13 +476,16 @@ static result read_model(const uint8_t *file, size_t len, lists *to) {
         if (block_sum(file + i * BLOCK) != pair(file + i * BLOCK + 510)) return refused(21);
     for (i = 0; i < blocks; i++)
         if (pair(file + i * BLOCK) != i) return refused(22);
-    uint32_t n[4];
+    uint32_t n[4], version = 1;
     for (i = 0; i < 4; i++) n[i] = payload_number(file, 2 * i);
+    if (n[0] >= VERSION_2) version = 2, n[0] -= VERSION_2;
     if (!in_limits(n[0], n[1], n[2], n[3])) return refused(1);
     size_t due = 8 + 2 * (n[2] + n[2] + 1 + n[3]) + n[1];
     if (len != file_bytes(due)) return refused(23);
     for (i = due; i < blocks * PAYLOAD; i++)
         if (payload_byte(file, i)) return refused(23);
+    for (i = due - n[1]; i + 1 < due && version == 2; i++)
+        if (payload_byte(file, i) == 0) return refused(25);
     for (i = 0; i < n[2]; i++, at += 2) to->owners[i] = (uint16_t)payload_number(file, at);
     for (i = 0; i <= n[2]; i++, at += 2) to->starts[i] = (uint16_t)payload_number(file, at);
     for (i = 0; i < n[3]; i++, at += 2) to->symbols[i] = (uint16_t)payload_number(file, at);
@@ -479,6 +493,6 @@ static result read_model(const uint8_t *file, size_t len, lists *to) {
     grammar g = {(uint16_t)n[0], to->owners, to->starts, to->symbols, to->costs, n[2], n[2] + 1, n[3], n[1]};
     uint32_t number = check_of(&g);
     if (number) return refused(number);
-    result r = {0, {n[0], n[1], n[2], n[3]}};
+    result r = {0, {n[0], n[1], n[2], n[3], version}};
     return r;
 }

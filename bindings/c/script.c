@@ -253,8 +253,8 @@ static void count_of(void) {
 }
 
 /* A block file: blocks of 512 bytes, each its number, 508 bytes of payload, and as its check the sum of all before it,
- * modulo 65536. */
-enum { BLOCK = 512, PAYLOAD = 508, CHECK = 510 };
+ * modulo 65536. A version 2 file has 32768 added to its R field, the first number of the payload. */
+enum { BLOCK = 512, PAYLOAD = 508, CHECK = 510, R_FIELD = 2, VERSION_2 = 32768 };
 static int file_made;
 
 static void put(size_t at, uint32_t byte) {
@@ -360,7 +360,7 @@ static void read_blocks(void) {
     if (n.refusal)
         printf(" refused %u", n.refusal);
     else
-        printf(" %u %u %u %u", n.rules, n.tokens, n.prods, n.symbols);
+        printf(" %u %u %u %u %u", n.rules, n.tokens, n.prods, n.symbols, n.version);
     say_fronts();
 }
 
@@ -377,24 +377,31 @@ static void say_checks(const uint8_t *bytes, size_t blocks) {
     if (blocks > NAMED) printf(" %llu", (unsigned long long)sum);
 }
 
-/* Writes the grammar's file to room full of 99. What was written is then the case's file, once it has been held to
- * what the step `file` makes; with a refusal there is none. */
+/* Writes the grammar's file in a version to room full of 99. What was written is then the case's file, once it has been
+ * held to what the step `file` makes, of version 2 with the R field changed; with a refusal there is none. */
 static void write_blocks(void) {
     static uint8_t written[MOST];
+    uint16_t version = given[1];
     lend_same(BYTES, given[0], old(BYTES));
-    boltmarrow_answer a = boltmarrow_write_blocks(G, LIST(uint8_t, BYTES));
+    boltmarrow_answer a = boltmarrow_write_blocks(G, version, LIST(uint8_t, BYTES));
     size_t room = lent[BYTES].len, len = a.refusal ? 0 : a.value;
     if (len > room) fail("it says more bytes than there is room", line);
     int kept = next_place(BYTES, len, 0) == room;
     check_guards();
     memcpy(written, lent[BYTES].at, len);
     make_file(len);
+    if (version == 2) {
+        put_number(R_FIELD, VERSION_2 + rules);
+        put_checks();
+    }
     if (a.refusal) {
         printf(" refused %u", a.refusal);
     } else {
         printf(" %zu", len);
         say_checks(written, len / BLOCK);
-        printf("; %s file(%zu)", memcmp(written, lent[BYTES].at, len) ? "other than" : "as", len);
+        printf("; %s file(%zu", memcmp(written, lent[BYTES].at, len) ? "other than" : "as", len);
+        if (version == 2) printf(" %d %d", R_FIELD, VERSION_2 + rules);
+        printf(")");
     }
     printf("; %zu %s", room - len, kept ? "kept" : "lost");
     memcpy(lent[BYTES].at, written, len);
@@ -412,7 +419,7 @@ static const struct step {
 #define EACH(name, before, ...) {#name, before + 1, MOST, 1, name},
     CALLS
     {"read_blocks", 4, 4, 1, read_blocks},
-    {"write_blocks", 1, 1, 1, write_blocks},
+    {"write_blocks", 2, 2, 1, write_blocks},
     {"file", 1, MOST, 0, file},
     {"show", 0, 0, 1, show},
     {"at", 1, 1, 1, at},

@@ -77,12 +77,12 @@ static const char *const names[OPS] = {
     "follow_clear", "follow_visit",     "follow_fill",      "min_sentence",    "write_blocks"};
 
 static result pack(boltmarrow_answer a) {
-    result r = {a.refusal, {a.value, 0, 0, 0}};
+    result r = {a.refusal, {a.value}};
     return r;
 }
 
 static result stretch(boltmarrow_stretch s) {
-    result r = {s.refusal, {s.from, s.len, 0, 0}};
+    result r = {s.refusal, {s.from, s.len}};
     return r;
 }
 
@@ -154,7 +154,7 @@ static result library(const call *c, copies l) {
     case MIN_SENTENCE:
         return pack(boltmarrow_min_sentence(G, rule, T(0), T(1), T(2), l.out, c->out_len));
     case WRITE_BLOCKS:
-        return pack(boltmarrow_write_blocks(G, l.bytes, c->bytes_len));
+        return pack(boltmarrow_write_blocks(G, c->version, l.bytes, c->bytes_len));
     case OPS:
         break;
     }
@@ -179,12 +179,13 @@ WIDE(boltmarrow_answer, min_sentence_cost, uint64_t, LIST(uint32_t), LIST(uint32
 WIDE(boltmarrow_answer, follow_visit, uint64_t, uint64_t, LIST(uint32_t), LIST(const uint32_t), LIST(const uint32_t));
 WIDE(boltmarrow_answer, follow_fill, uint64_t, LIST(uint32_t), LIST(uint32_t), LIST(uint32_t));
 WIDE(boltmarrow_answer, min_sentence, uint64_t, LIST(uint32_t), LIST(uint32_t), LIST(uint32_t), LIST(uint16_t));
+WIDE(boltmarrow_answer, write_blocks, uint64_t, LIST(uint8_t));
 
 static uint64_t slot(uint16_t number) { return (uint64_t)next() << 32 | (uint64_t)(1 + below(65535)) << 16 | number; }
 
 static result wide(const call *c, copies l) {
     uint64_t rules = slot(c->g.rules), rule = slot(c->rule), to = slot(c->to), token = slot(c->token);
-    uint64_t prod = slot(c->prod), mode = slot(c->mode);
+    uint64_t prod = slot(c->prod), mode = slot(c->mode), version = slot(c->version);
     switch (c->op) {
     case PRODUCTION:
         return stretch(wide_production(rules, LISTS, prod));
@@ -208,6 +209,8 @@ static result wide(const call *c, copies l) {
         return pack(wide_follow_fill(rules, LISTS, mode, T(0), T(1), T(2)));
     case MIN_SENTENCE:
         return pack(wide_min_sentence(rules, LISTS, rule, T(0), T(1), T(2), l.out, c->out_len));
+    case WRITE_BLOCKS:
+        return pack(wide_write_blocks(rules, LISTS, version, l.bytes, c->bytes_len));
     default:
         return library(c, l);
     }
@@ -225,7 +228,7 @@ static result run(call *c) {
     result got = below(4) ? library(c, l) : wide(c, l), want = model(c);
     calls++;
     expect(what, got.refusal, want.refusal);
-    for (int i = 0; i < 4; i++) expect(what, got.field[i], want.field[i]);
+    for (int i = 0; i < 5; i++) expect(what, got.field[i], want.field[i]);
     returned(what, 0, c->g.owners);
     returned(what, 1, c->g.starts);
     returned(what, 2, c->g.symbols);
@@ -287,9 +290,10 @@ static uint32_t word(void) {
 /* The largest file, and some bytes more. */
 enum { ROOM = 98 * BLOCK + 100 };
 
-/* A call on the grammar at hand, its tables of the right lengths and full of random words, and room for any file. */
+/* A call on the grammar at hand, its tables of the right lengths and full of random words, version 1, and room for any
+ * file. */
 static call make(op which) {
-    call c = {which, g, 0, 0, 0, 1, 0, {words[0], words[1], words[2]}, {0, 0, 0}, output, 100, bytes, ROOM};
+    call c = {which, g, 0, 0, 0, 1, 0, 1, {words[0], words[1], words[2]}, {0, 0, 0}, output, 100, bytes, ROOM};
     for (size_t i = 0; i < strlen(tables_of[which]); i++) {
         c.table_len[i] = length_of(tables_of[which][i], &g);
         for (size_t j = 0; j < c.table_len[i]; j++) words[i][j] = word();
@@ -309,7 +313,7 @@ static result fill(op which, uint16_t mode) {
 static uint32_t row(uint16_t rule) {
     uint32_t bits = 0;
     for (uint16_t t = 0; t < g.tokens; t++) {
-        call c = {MARK, g, rule, t, 0, 0, 0, {words[0]}, {length_of('T', &g)}, NULL, 0, NULL, 0};
+        call c = {MARK, g, rule, t, 0, 0, 0, 0, {words[0]}, {length_of('T', &g)}, NULL, 0, NULL, 0};
         bits |= run(&c).field[0] << t;
     }
     return bits;
@@ -318,7 +322,7 @@ static uint32_t row(uint16_t rule) {
 static uint32_t rule_row(int table) {
     uint32_t bits = 0;
     for (uint16_t r = 0; r < g.rules; r++) {
-        call c = {RULE_MARK, g, r, 0, 0, 0, 0, {words[table]}, {length_of('E', &g)}, NULL, 0, NULL, 0};
+        call c = {RULE_MARK, g, r, 0, 0, 0, 0, 0, {words[table]}, {length_of('E', &g)}, NULL, 0, NULL, 0};
         bits |= run(&c).field[0] << r;
     }
     return bits;
@@ -397,7 +401,7 @@ static void g1(void) {
     fill(FIRST_CLEAR, 0);
     for (int round = 0; round < 2; round++) {
         for (int i = 0; i < 6; i++) {
-            call v = {FIRST_VISIT, g, 0, 0, order[i], 0, 0, {words[0], words[1]}, {4, 1}, NULL, 0, NULL, 0};
+            call v = {FIRST_VISIT, g, 0, 0, order[i], 0, 0, 0, {words[0], words[1]}, {4, 1}, NULL, 0, NULL, 0};
             run(&v);
         }
         expect("G1 rounds", row(1), round ? 5 : 0);
@@ -558,6 +562,8 @@ static void numbers(void) {
             expect("production number", run(&c).refusal, visit || o == PRODUCTION ? 11 : 0);
             c = make((op)o), c.mode = far ? 65535 : 0;
             expect("mode", run(&c).refusal, o == FOLLOW_VISIT || o == FOLLOW_FILL ? 8 : 0);
+            c = make((op)o), c.version = far ? 65535 : 0;
+            expect("version", run(&c).refusal, o == WRITE_BLOCKS ? 26 : 0);
             c = make((op)o), c.mode = 3, c.prod = 6;
             expect("mode and production", run(&c).refusal,
                    o == FOLLOW_VISIT || o == FOLLOW_FILL ? 8 : visit || o == PRODUCTION ? 11 : 0);
@@ -582,10 +588,11 @@ static result read_into(size_t a, size_t b, size_t c, size_t d) {
     uint16_t *o = lend(1, to.owners, a, 2), *s = lend(2, to.starts, b, 2), *y = lend(3, to.symbols, c, 2);
     uint8_t *k = lend(4, to.costs, d, 1);
     boltmarrow_counts n = boltmarrow_read_blocks(f, file_len, o, a, s, b, y, c, k, d);
-    result got = {n.refusal, {n.rules, n.tokens, n.prods, n.symbols}}, want = read_model(file, file_len, &to);
+    result got = {n.refusal, {n.rules, n.tokens, n.prods, n.symbols, n.version}};
+    result want = read_model(file, file_len, &to);
     calls++;
     expect("reader's refusal", got.refusal, want.refusal);
-    for (int i = 0; i < 4; i++) expect("reader's count", got.field[i], want.field[i]);
+    for (int i = 0; i < 5; i++) expect("reader's count", got.field[i], want.field[i]);
     returned("reader's file", 0, file);
     returned("reader's owners", 1, to.owners);
     returned("reader's starts", 2, to.starts);
@@ -598,11 +605,13 @@ static uint32_t read_refusal(void) { return read_into(4096, 4097, 16384, 512).re
 
 static void seal(void) { put_checks(file, file_len); }
 
-/* Makes the block file of the grammar at hand. */
-static void make_file(void) {
+/* Makes the block file of the grammar at hand, of version 1 or 2. */
+static void make_version(int version) {
     memset(file, 0, sizeof file);
-    file_len = write_file(&g, file);
+    file_len = write_file(&g, version, file);
 }
+
+static void make_file(void) { make_version(1); }
 
 static void g1_file(void) {
     begin_g1();
@@ -665,16 +674,61 @@ static void reader(void) {
     expect("the largest file", read_refusal(), 0);
 }
 
-static void write_is(size_t room, uint32_t refusal, uint32_t value) {
+/* The file of G1 in version 2, with a token that costs nothing. */
+static void free_file(size_t token) {
+    begin_g1();
+    costs[token] = 0;
+    make_version(2);
+}
+
+/* Version 2: its counts, the numbers that its R field has besides, and 25 in its place. */
+static void reader_versions(void) {
+    begin_g1(), make_version(2);
+    expect("version 2's field", file[2] + 256 * file[3], 32772);
+    expect("version 2's check", pair(file + 510), 587);
+    result r = read_into(4096, 4097, 16384, 512);
+    expect("version 2's R", r.field[0], 4);
+    expect("version 2", r.field[4], 2);
+    g1_file(), r = read_into(4096, 4097, 16384, 512);
+    expect("version 1", r.field[4], 1);
+    static const uint16_t out[] = {0, 1, 513, 600, 16384, 32767};
+    for (int i = 0; i < 6; i++)
+        g1_file(), put_pair(file + 2, out[i] + VERSION_2), seal(), expect("version 2, R out", read_refusal(), 1);
+    for (size_t token = 0; token < 4; token++) {
+        free_file(token), expect("a free token", read_refusal(), token < 3 ? 25 : 0);
+        make_version(1), expect("a free token in version 1", read_refusal(), 0);
+    }
+    free_file(0), expect("7 before 25", read_into(4096, 4097, 16384, 511).refusal, 7);
+    free_file(0), file_len = 513, expect("20 before 25", read_refusal(), 20);
+    free_file(0), file[510] ^= 1, expect("21 before 25", read_refusal(), 21);
+    free_file(0), file[0] = 1, seal(), expect("22 before 25", read_refusal(), 22);
+    free_file(0), file[2] = 0, seal(), expect("1 before 25", read_refusal(), 1);
+    free_file(0), file[54] = 1, seal(), expect("23 before 25", read_refusal(), 23);
+    for (int free = 0; free < 2; free++) {
+        begin_g1(), costs[1] = !free, starts[2] = 2, make_version(2), expect("25 and 2", read_refusal(), free ? 25 : 2);
+        begin_g1(), costs[1] = !free, owners[1] = 4, make_version(2), expect("25 and 3", read_refusal(), free ? 25 : 3);
+        begin_g1(), costs[1] = !free, owners[1] = owners[2] = 1, make_version(2);
+        expect("25 and 4", read_refusal(), free ? 25 : 4);
+        begin_g1(), costs[1] = !free, symbols[1] = 3, make_version(2), expect("25 and 5", read_refusal(), free ? 25 : 5);
+        begin_g1(), costs[1] = !free, symbols[0] = R(0), make_version(2);
+        expect("25 and 6", read_refusal(), free ? 25 : 6);
+    }
+    begin(2, 1, 0), PROD(0, R(1)), prod(1, NULL, 0), make_version(2), expect("one token, free", read_refusal(), 0);
+}
+
+static void write_version(uint16_t version, size_t room, uint32_t refusal, uint32_t value) {
     call c = make(WRITE_BLOCKS);
+    c.version = version;
     c.bytes_len = room;
     result r = run(&c);
     expect("writer's refusal", r.refusal, refusal);
     expect("writer's bytes", r.field[0], value);
 }
 
-/* What was written last is read as the grammar at hand. */
-static void reads_back(void) {
+static void write_is(size_t room, uint32_t refusal, uint32_t value) { write_version(1, room, refusal, value); }
+
+/* What was written last is read as the grammar at hand, in that version. */
+static void reads_back(uint32_t version) {
     file_len = file_bytes(8 + 2 * (g.prods + g.starts_len + g.symbols_len) + g.tokens);
     memcpy(file, bytes, file_len);
     result r = read_into(4096, 4097, 16384, 512);
@@ -682,6 +736,7 @@ static void reads_back(void) {
     expect("read again: tokens", r.field[1], g.tokens);
     expect("read again: productions", r.field[2], g.prods);
     expect("read again: symbols", r.field[3], g.symbols_len);
+    expect("read again: version", r.field[4], version);
     expect("read again: owners", !memcmp(read_owners, owners, 2 * g.prods), 1);
     expect("read again: starts", !memcmp(read_starts, starts, 2 * g.starts_len), 1);
     expect("read again: symbols", !memcmp(read_symbols, symbols, 2 * g.symbols_len), 1);
@@ -692,7 +747,7 @@ static void writer(void) {
     begin_g1();
     for (size_t room = 0; room < 1100; room++) write_is(room, room < 512 ? 24 : 0, room < 512 ? 0 : 512);
     expect("G1's check", pair(bytes + 510), 459);
-    reads_back();
+    reads_back(1);
     /* 1 to 6 come before 24 */
     static const size_t some[] = {0, 511, 600};
     for (int i = 0; i < 3; i++) {
@@ -710,13 +765,47 @@ static void writer(void) {
         write_is(len - 1, 24, 0);
         write_is(len + 1, 0, (uint32_t)len);
         write_is(len, 0, (uint32_t)len);
-        reads_back();
+        reads_back(1);
     }
     limits();
     write_is(98 * BLOCK - 1, 24, 0);
     write_is(98 * BLOCK + 1, 0, 98 * BLOCK);
     write_is(98 * BLOCK, 0, 98 * BLOCK);
-    reads_back();
+    reads_back(1);
+}
+
+/* 26 before all others, 1 to 6 before 25, 25 before 24. */
+static void writer_versions(void) {
+    static const uint16_t other[] = {0, 3, 257, 258, 32769, 32770, 65535};
+    for (int i = 0; i < 7; i++) {
+        begin_g1(), write_version(other[i], 512, 26, 0);
+        begin_g1(), costs[0] = 0, g.rules = 1, write_version(other[i], 511, 26, 0);
+    }
+    for (size_t room = 500; room < 600; room++) {
+        begin_g1(), write_version(2, room, room < 512 ? 24 : 0, room < 512 ? 0 : 512);
+        begin_g1(), costs[2] = 0, write_version(2, room, 25, 0);
+    }
+    begin_g1(), write_version(2, 512, 0, 512);
+    expect("version 2's check", pair(bytes + 510), 587);
+    reads_back(2);
+    for (int token = 0; token < 4; token++) {
+        begin_g1(), costs[token] = 0, write_version(2, 600, token < 3 ? 25 : 0, token < 3 ? 0 : 512);
+        if (token == 3) reads_back(2);
+        write_version(1, 600, 0, 512);
+        reads_back(1);
+    }
+    begin_g1(), costs[0] = 0, g.rules = 1, write_version(2, 511, 1, 0);
+    begin_g1(), costs[0] = 0, starts[2] = 2, write_version(2, 511, 2, 0);
+    begin_g1(), costs[0] = 0, owners[1] = 4, write_version(2, 511, 3, 0);
+    begin_g1(), costs[0] = 0, owners[1] = owners[2] = 1, write_version(2, 511, 4, 0);
+    begin_g1(), costs[0] = 0, symbols[1] = 3, write_version(2, 511, 5, 0);
+    begin_g1(), costs[0] = 0, symbols[0] = R(0), write_version(2, 511, 6, 0);
+    begin(2, 1, 0), PROD(0, R(1)), prod(1, NULL, 0), write_version(2, 512, 0, 512);
+    reads_back(2);
+    limits();
+    write_version(2, 98 * BLOCK - 1, 24, 0);
+    write_version(2, 98 * BLOCK, 0, 98 * BLOCK);
+    reads_back(2);
 }
 
 /* A well-formed grammar, small or with rows of several words. In a layered one a rule holds only the next
@@ -763,6 +852,11 @@ static void damage(void) {
     }
 }
 
+/* No token but eof costs nothing, so that version 2 takes the grammar at hand. */
+static void dear(void) {
+    for (size_t t = 0; t + 1 < g.tokens; t++) costs[t] |= 1;
+}
+
 /* Room for the file of the grammar at hand, a byte less or more, or any. */
 static size_t any_room(void) {
     size_t len = file_bytes(8 + 2 * (g.prods + g.starts_len + g.symbols_len) + g.tokens);
@@ -773,20 +867,22 @@ static size_t any_room(void) {
 static void random_calls(int grammars) {
     for (int n = 0; n < grammars; n++) {
         random_grammar();
+        if (below(3) == 0) dear();
         if (below(4) == 0) damage();
         call c = make((op)below(OPS));
         for (int i = 0; i < 12; i++) {
             c.rule = (uint16_t)below(g.rules + 1u), c.to = (uint16_t)below(g.rules + 1u);
             c.token = (uint16_t)below((uint32_t)g.tokens + 1), c.prod = (uint16_t)below((uint32_t)g.prods + 1);
             c.mode = (uint16_t)(below(8) ? 1 + below(2) : below(4)), c.out_len = below(below(8) ? 60 : 100000);
-            c.bytes_len = any_room();
+            c.bytes_len = any_room(), c.version = (uint16_t)(below(8) ? 1 + below(2) : below(4));
             size_t *len = &c.table_len[below(3)], right = *len;
             if (below(12) == 0) *len = right + below(3) - (right > 0);
             run(&c);
             *len = right;
         }
         if (g.rules && g.tokens < 60000 && below(3) == 0) {
-            make_file();
+            if (below(3) == 0) dear();
+            make_version(1 + (int)below(2));
             if (below(2)) file[below((uint32_t)file_len)] ^= (uint8_t)(1u << below(8));
             if (below(2)) seal();
             if (below(8) == 0) file_len += BLOCK;
@@ -804,7 +900,9 @@ int main(void) {
     list_lengths();
     numbers();
     reader();
+    reader_versions();
     writer();
+    writer_versions();
     random_calls(4000);
     printf("test: %lu calls, %lu checks, %lu wrong\n", calls, checks, wrong);
     return wrong != 0;

@@ -11,8 +11,8 @@
  *
  * Numbers. A rule's, a token's and a production's number are types of their own, so that none can
  * be passed for another: boltmarrow_has_path(.., (boltmarrow_ridx){1}, (boltmarrow_ridx){2}). All
- * numbers have 16 bits. A wider one that is put into such a type, or handed over as `rules` or
- * `mode`, is cut to 16 bits before the call sees it: 65537 asks about rule 1. Check it before.
+ * numbers have 16 bits. A wider one that is put into such a type, or handed over as `rules`, `mode`
+ * or `version`, is cut to 16 bits before the call sees it: 65537 asks about rule 1. Check it before.
  *
  * Tables. A mark table (FIRST, FOLLOW) has R rows of (T+31)/32 words: token t of rule r is bit t%32
  * of word r*((T+31)/32) + t/32. EMPTY and PRODUCTIVE are one row of (R+31)/32 words: rule r is bit
@@ -51,9 +51,12 @@
  *  22  a block's number is not its place
  *  23  other than the blocks due, or a spare payload byte not zero
  *  24  the buffer is too short for the grammar's block file
+ *  25  a token other than eof costs nothing, in a file of version 2
+ *  26  a file version other than 1 or 2
  *
- * The lowest number due is given (the file reader's order is 7, 20, 21, 22, 1, 23, 2 to 6). A
- * refusal leaves lent memory as found, but for what a call's line says.
+ * The lowest number due is given; but the file reader's order is 7, 20, 21, 22, 1, 23, 25, 2 to 6,
+ * and the file writer's 26, 1 to 6, 25, 24. A refusal leaves lent memory as found, but for what a
+ * call's line says.
  */
 #ifndef BOLTMARROW_H
 #define BOLTMARROW_H
@@ -91,13 +94,14 @@ typedef struct {
     uint32_t len;
 } boltmarrow_stretch;
 
-/* the counts of a grammar read from a file; all 0 beside a refusal */
+/* the counts of a grammar read from a file, and the file's version, 1 or 2; all 0 beside a refusal */
 typedef struct {
     uint32_t refusal;
     uint32_t rules;
     uint32_t tokens;
     uint32_t prods;
     uint32_t symbols;
+    uint32_t version;
 } boltmarrow_counts;
 
 /* the five parameters of a grammar */
@@ -173,19 +177,23 @@ boltmarrow_answer boltmarrow_min_sentence(BOLTMARROW_GRAMMAR, boltmarrow_ridx ru
                                           uint32_t *cost, size_t cost_len, uint32_t *lengths,
                                           size_t lengths_len, uint16_t *out, size_t out_len);
 
-/* Reads a block file into lists of 4096, 4097, 16384 and 512, else 7. Fills the front of each and
- * keeps the rest, also when 2 to 6 follow; with 7, 20, 21, 22, 1 and 23 all is as found. */
+/* Reads a block file, of version 1 or 2, into lists of 4096, 4097, 16384 and 512, else 7. Fills the
+ * front of each and keeps the rest, also when 2 to 6 follow; with 7, 20, 21, 22, 1, 23 and 25 all is
+ * as found. */
 boltmarrow_counts boltmarrow_read_blocks(const uint8_t *file, size_t file_len, uint16_t *owners,
                                          size_t owners_len, uint16_t *starts, size_t starts_len,
                                          uint16_t *symbols, size_t symbols_len, uint8_t *costs,
                                          size_t costs_len);
 
 /* Writes the grammar's block file, whole blocks of 512 bytes, to the front of `out` and keeps the
- * rest; the answer is the number of bytes. `out` is room of any length; the largest file has
- * 98 * 512 bytes, so that much is room for every grammar. Refusals 1 to 6, then 24 where `out` is
- * too short; with each nothing is written. Reading the file gives the same grammar, and a file that
- * was read is written with the same bytes. */
-boltmarrow_answer boltmarrow_write_blocks(BOLTMARROW_GRAMMAR, uint8_t *out, size_t out_len);
+ * rest; the answer is the number of bytes. `version` is 1 or 2, else 26, before all others. In
+ * version 2 every token but eof costs at least 1, else 25; version 1 takes any costs. `out` is room
+ * of any length; the largest file has 98 * 512 bytes, so that much is room for every grammar.
+ * Refusals 26, 1 to 6, 25, then 24 where `out` is too short; with each nothing is written. Reading
+ * the file gives the same grammar and version, and a file that was read is written, in its version,
+ * with the same bytes. */
+boltmarrow_answer boltmarrow_write_blocks(BOLTMARROW_GRAMMAR, uint16_t version, uint8_t *out,
+                                          size_t out_len);
 
 #ifdef __cplusplus
 }

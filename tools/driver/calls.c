@@ -20,7 +20,7 @@ struct call {
     uint16_t number[NUMBERS];
     struct list list[LISTS];
     size_t numbers, lists;
-    uint32_t answer[5];
+    uint32_t answer[6];
     size_t answers;
 };
 
@@ -59,7 +59,7 @@ CALL(follow_clear, GRAMMAR, WORDS(4))
 CALL(follow_visit, GRAMMAR, c->number[1], PIDX(2), WORDS(4), WORDS(5), WORDS(6))
 CALL(follow_fill, GRAMMAR, c->number[1], WORDS(4), WORDS(5), WORDS(6))
 CALL(min_sentence, GRAMMAR, RIDX(1), WORDS(4), WORDS(5), WORDS(6), HALVES(7))
-CALL(write_blocks, GRAMMAR, BYTES(4))
+CALL(write_blocks, GRAMMAR, c->number[1], BYTES(4))
 
 static void production(struct call *c) {
     boltmarrow_stretch said = boltmarrow_production(GRAMMAR, PIDX(1));
@@ -70,7 +70,7 @@ static void production(struct call *c) {
 static void read_blocks(struct call *c) {
     boltmarrow_counts said = boltmarrow_read_blocks(BYTES(0), HALVES(1), HALVES(2), HALVES(3), BYTES(4));
     memcpy(c->answer, &said, sizeof said);
-    c->answers = 5;
+    c->answers = 6;
 }
 
 /* n: a number; else a list */
@@ -97,7 +97,7 @@ static const struct {
     {follow_visit, "nhhhbnnwww"},
     {follow_fill, "nhhhbnwww"},
     {min_sentence, "nhhhbnwwwh"},
-    {write_blocks, "nhhhbb"},
+    {write_blocks, "nhhhbnb"},
     {read_blocks, "bhhhb"},
 };
 

@@ -2,8 +2,8 @@
 //!
 //!     store FILE
 //!
-//! The grammar, written down here by its tables, is a CSV row of fields that may be left empty. `bin/report FILE` then
-//! prints its report, and `Grammar::from_blocks` reads it.
+//! The grammar, written down here by its tables, is a CSV row of fields that may be left empty. The file is of version 2:
+//! each of its tokens costs something. `bin/report FILE` then prints its report, and `Grammar::from_blocks` reads it.
 //!
 //!     start: Row
 //!     Row:   Field More newline
@@ -11,10 +11,10 @@
 //!     More:  comma Field More | nothing
 use std::env;
 use std::error::Error;
-use std::fs::File;
+use std::fs;
 use std::process::exit;
 
-use boltmarrow::{Grammar, RIdx, Refusal, Symbol, TIdx};
+use boltmarrow::{Grammar, RIdx, Refusal, Symbol, TIdx, Version};
 
 const START: RIdx = RIdx(0);
 const ROW: RIdx = RIdx(1);
@@ -51,7 +51,7 @@ fn row() -> Result<Grammar, Refusal> {
 }
 
 fn store(file: &str) -> Result<(), Box<dyn Error>> {
-    row()?.write_blocks(&mut File::create(file)?)?;
+    fs::write(file, row()?.to_blocks(Version::Two)?)?;
     Ok(())
 }
 

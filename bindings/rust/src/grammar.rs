@@ -4,7 +4,7 @@ use crate::sys::{self, Flat};
 use crate::table::words;
 use crate::{
     CostTable, Costs, FirstTable, Firsts, FollowTable, Follows, Mode, PIdx, Productive, ProductiveTable, RIdx, Refusal,
-    SIdx, SentenceGenerator, Symbol, TIdx,
+    SIdx, SentenceGenerator, Symbol, TIdx, Version,
 };
 
 /// The bytes of the largest block file: 98 blocks.
@@ -74,12 +74,22 @@ impl Grammar {
         Ok(Grammar::checked(rules, owners, starts, symbols, costs))
     }
 
-    /// The grammar of a block file.
+    /// The grammar of a block file, of either version.
     ///
     /// # Errors
     ///
-    /// Refusals 20 to 23 for the file, 1 to 6 for the grammar in it.
+    /// Refusals 20 to 23 for the file, 25 for a free token in version 2, 1 to 6 for the grammar in it.
     pub fn from_blocks(file: &[u8]) -> Result<Grammar, Refusal> {
+        Grammar::read_blocks(file).map(|(grm, _)| grm)
+    }
+
+    /// The grammar of a block file, and the file's version: [`to_blocks`](Self::to_blocks) in this version gives the
+    /// file's bytes again.
+    ///
+    /// # Errors
+    ///
+    /// Those of [`from_blocks`](Self::from_blocks).
+    pub fn read_blocks(file: &[u8]) -> Result<(Grammar, Version), Refusal> {
         let (mut owners, mut starts) = (vec![0; 4096], vec![0; 4097]);
         let (mut symbols, mut costs) = (vec![0; 16384], vec![0; 512]);
         let counts = sys::read_blocks(file, &mut owners, &mut starts, &mut symbols, &mut costs).told()?;
@@ -87,37 +97,50 @@ impl Grammar {
         starts.truncate(counts.prods as usize + 1);
         symbols.truncate(counts.symbols as usize);
         costs.truncate(counts.tokens as usize);
-        Ok(Grammar::checked(counts.rules as u16, owners, starts, symbols, costs))
+        let version = Version::try_from(counts.version as u16).expect("a file that is read is of a known version");
+        Ok((Grammar::checked(counts.rules as u16, owners, starts, symbols, costs), version))
     }
 
-    /// The block file of this grammar: whole blocks of 512 bytes, with their numbers and checks. Reading it
-    /// ([`from_blocks`](Self::from_blocks)) gives this grammar again, and a file that was read is written with the
-    /// same bytes.
+    /// The block file of this grammar in a version: whole blocks of 512 bytes, with their numbers and checks. Reading
+    /// it ([`read_blocks`](Self::read_blocks)) gives this grammar and this version again, and a file that was read is
+    /// written in its version with the same bytes.
     ///
     /// ```
-    /// use boltmarrow::Grammar;
+    /// use boltmarrow::{Grammar, Refusal, Version};
     ///
-    /// // Rule 0, the start, is rule 1, which is nothing; the one token is eof.
-    /// let grm = Grammar::new(2, vec![0, 1], vec![0, 1, 1], vec![32769], vec![1])?;
-    /// let file = grm.to_blocks();
+    /// // Rule 0, the start, is rule 1, which is token 0 or nothing; token 1 is eof.
+    /// let (owners, starts, symbols) = (vec![0, 1, 1], vec![0, 1, 2, 2], vec![32769, 0]);
+    /// let grm = Grammar::new(2, owners.clone(), starts.clone(), symbols.clone(), vec![1, 0])?;
+    /// let file = grm.to_blocks(Version::Two)?;
     /// assert_eq!(file.len(), 512);
     /// assert_eq!(Grammar::from_blocks(&file)?, grm);
-    /// # Ok::<(), boltmarrow::Refusal>(())
+    ///
+    /// // Token 0 costs nothing: version 2 does not take it, version 1 does.
+    /// let free = Grammar::new(2, owners, starts, symbols, vec![0, 0])?;
+    /// assert_eq!(free.to_blocks(Version::Two), Err(Refusal::FreeToken));
+    /// assert_eq!(Grammar::read_blocks(&free.to_blocks(Version::One)?)?, (free, Version::One));
+    /// # Ok::<(), Refusal>(())
     /// ```
-    pub fn to_blocks(&self) -> Vec<u8> {
-        let mut room = vec![0; LARGEST_FILE];
-        let len = sys::write_blocks(self.flat(), &mut room).number();
-        room[..len.expect("a checked grammar has a file, of 98 blocks at most") as usize].to_vec()
-    }
-
-    /// Writes the block file of this grammar, the bytes of [`to_blocks`](Self::to_blocks), to a file, or to whatever
-    /// else takes bytes.
     ///
     /// # Errors
     ///
-    /// Where `to` cannot be written, its own error; the grammar gives none.
-    pub fn write_blocks(&self, to: &mut impl io::Write) -> io::Result<()> {
-        to.write_all(&self.to_blocks())
+    /// Refusal 25 in version 2 if a token other than eof costs nothing; in version 1 none.
+    pub fn to_blocks(&self, version: Version) -> Result<Vec<u8>, Refusal> {
+        let mut room = vec![0; LARGEST_FILE];
+        let len = sys::write_blocks(self.flat(), version.number(), &mut room).number()?;
+        Ok(room[..len as usize].to_vec())
+    }
+
+    /// Writes the block file of this grammar in a version, the bytes of [`to_blocks`](Self::to_blocks), to a file, or
+    /// to whatever else takes bytes.
+    ///
+    /// # Errors
+    ///
+    /// Refusal 25, as `to_blocks` gives it: an error of the kind `InvalidInput` that holds the [`Refusal`], with which
+    /// nothing is written. Otherwise, where `to` cannot be written, its own error.
+    pub fn write_blocks(&self, version: Version, to: &mut impl io::Write) -> io::Result<()> {
+        let file = self.to_blocks(version).map_err(|refusal| io::Error::new(io::ErrorKind::InvalidInput, refusal))?;
+        to.write_all(&file)
     }
 
     /// The grammar of tables that the library has checked.

@@ -36,6 +36,7 @@ mod sys;
 mod table;
 #[cfg(test)]
 mod tests;
+mod version;
 
 pub use costs::{CostTable, Costs, Productive, ProductiveTable};
 pub use firsts::{FirstTable, Firsts};
@@ -44,3 +45,4 @@ pub use grammar::Grammar;
 pub use idx::{PIdx, RIdx, SIdx, Symbol, TIdx};
 pub use refusal::Refusal;
 pub use sentences::SentenceGenerator;
+pub use version::Version;

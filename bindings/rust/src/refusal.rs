@@ -46,6 +46,10 @@ pub enum Refusal {
     BlocksDue = 23,
     /// The buffer is too short for the grammar's block file. This crate lends no such buffer.
     BufferLength = 24,
+    /// A token other than eof costs nothing, in a file of version 2.
+    FreeToken = 25,
+    /// A file version other than 1 or 2. [`Version`](crate::Version) has no other.
+    Version = 26,
 }
 
 use Refusal::*;
@@ -73,6 +77,8 @@ impl Refusal {
         BlockNumber,
         BlocksDue,
         BufferLength,
+        FreeToken,
+        Version,
     ];
 
     /// The documents' number.
@@ -115,6 +121,8 @@ impl Refusal {
             BlockNumber => "a block of the file is out of place: its number is not its position",
             BlocksDue => "the file has too few or too many blocks for its grammar, or something behind its end",
             BufferLength => "the buffer is too short for the grammar's block file",
+            FreeToken => "a token other than eof costs nothing, and in a file of version 2 each costs at least 1",
+            Version => "block files have the versions 1 and 2 only",
         }
     }
 }

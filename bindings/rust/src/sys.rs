@@ -43,6 +43,7 @@ pub(crate) struct Counts {
     pub(crate) tokens: u32,
     pub(crate) prods: u32,
     pub(crate) symbols: u32,
+    pub(crate) version: u32,
 }
 
 impl Answer {
@@ -123,7 +124,7 @@ exports! {
     boltmarrow_follow_visit = follow_visit(mode prod; follow: u32; first: u32, empty: u32;) -> Answer;
     boltmarrow_follow_fill = follow_fill(mode; follow: u32, first: u32, empty: u32;;) -> Answer;
     boltmarrow_min_sentence = min_sentence(rule; productive: u32, cost: u32, lengths: u32, out: u16;;) -> Answer;
-    boltmarrow_write_blocks = write_blocks(; out: u8;;) -> Answer;
+    boltmarrow_write_blocks = write_blocks(version; out: u8;;) -> Answer;
 }
 
 extern "C" {

@@ -11,7 +11,7 @@ use Rattle.grammar.proofs.Outcomes.{not-both, refused-one}
 use Rattle.blocks.specs.declared.Counts.{Counts}
 use Rattle.blocks.specs.declared.Reading.{Reading}
 use Rattle.blocks.specs.Layout.{countsOf, grammarOf}
-use Rattle.blocks.specs.Refusals.{fileWrong, checksDiffer, numbersDiffer, countsOut, blocksWrong}
+use Rattle.blocks.specs.Refusals.{fileWrong, checksDiffer, numbersDiffer, countsOut, blocksWrong, tokenFree}
 use Rattle.blocks.specs.Steps.{Fronts, fronts}
 use Rattle.blocks.specs.Reading.{Lists, lists, filled, readingIs, unlessFile, fileDue, readDue, readOf, Read}
 use Rattle.blocks.specs.Conditions.{Long, Limited}
@@ -35,7 +35,8 @@ module _ {A : Type 0} (x : Outcome A) where
       (ends (checksDiffer file) 21 n _ _
       (ends (numbersDiffer file) 22 n _ _
       (ends (countsOut (countsOf file)) 1 n _ _
-      (ends (blocksWrong file (countsOf file)) 23 n _ _ (λ e. absurd (not-both e))))))
+      (ends (blocksWrong file (countsOf file)) 23 n _ _
+      (ends (tokenFree (countsOf file .version) (grammarOf file (countsOf file) .costs)) 25 n _ _ (λ e. absurd (not-both e)))))))
 
   file-goes : (file : List ℕ) → fileDue file ≡ answers tt → unlessFile file x ≡ x
   file-goes file =
@@ -43,9 +44,10 @@ module _ {A : Type 0} (x : Outcome A) where
       (goes-on (checksDiffer file) 21 _ _
       (goes-on (numbersDiffer file) 22 _ _
       (goes-on (countsOut (countsOf file)) 1 _ _
-      (goes-on (blocksWrong file (countsOf file)) 23 _ _ (λ e. refl)))))
+      (goes-on (blocksWrong file (countsOf file)) 23 _ _
+      (goes-on (tokenFree (countsOf file .version) (grammarOf file (countsOf file) .costs)) 25 _ _ (λ e. refl))))))
 
--- R, T, P and N are answered: they are within the limits, and the fronts of the lists hold the file's well-formed grammar
+-- R, T, P, N and the version are answered: they are within the limits, and the fronts of the lists hold the file's well-formed grammar
 pub record Held (file : List ℕ) (c : Counts) (owners starts symbols costs : List ℕ) : Type 0 where
   pub limited : Limited c
   pub well : WellFormed (fronts c owners starts symbols costs)

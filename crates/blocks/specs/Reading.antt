@@ -11,9 +11,9 @@ use Rattle.blocks.specs.declared.Counts.{Counts}
 use Rattle.blocks.specs.declared.Reading.{Reading}
 use Rattle.blocks.specs.declared.Reading.the-variants.{Counts as Given, Refused}
 use Rattle.blocks.specs.Layout.{countsOf, grammarOf}
-use Rattle.blocks.specs.Refusals.{listsWrong, fileWrong, checksDiffer, numbersDiffer, countsOut, blocksWrong}
+use Rattle.blocks.specs.Refusals.{listsWrong, fileWrong, checksDiffer, numbersDiffer, countsOut, blocksWrong, tokenFree}
 
--- the cases of the answer: R, T, P and N, or the refusal
+-- the cases of the answer: the version with R, T, P and N, or the refusal
 abbrev pub readingIs : Reading → Outcome Counts
 readingIs (Given c) = answers c
 readingIs (Refused n) = refused n
@@ -35,14 +35,15 @@ over front list = front ++ drop (length front) list
 abbrev pub filled : Flat → Lists → Lists
 filled g m = lists (over (g .owners) (m .owners)) (over (g .starts) (m .starts)) (over (g .symbols) (m .symbols)) (over (g .costs) (m .costs))
 
--- the file reader's order is 20, 21, 22, 1, 23; where none of them is due, it goes on
+-- the file reader's order is 20, 21, 22, 1, 23, 25; where none of them is due, it goes on
 abbrev pub unlessFile : {A : Type 0} → List ℕ → Outcome A → Outcome A
 unlessFile file x =
     unless (fileWrong (length file)) 20
     (unless (checksDiffer file) 21
     (unless (numbersDiffer file) 22
     (unless (countsOut (countsOf file)) 1
-    (unless (blocksWrong file (countsOf file)) 23 x))))
+    (unless (blocksWrong file (countsOf file)) 23
+    (unless (tokenFree (countsOf file .version) (grammarOf file (countsOf file) .costs)) 25 x)))))
 
 -- a file's own refusals
 abbrev pub fileDue : List ℕ → Outcome (Unit {0})
@@ -56,7 +57,7 @@ readDue file m = unless (listsWrong (length (m .owners)) (length (m .starts)) (l
 abbrev pub readOf : List ℕ → Outcome Counts
 readOf file = unlessFile file (unlessDue (grammarOf file (countsOf file)) (answers (countsOf file)))
 
--- then it fills the lists, also when 2 to 6 follow, and answers the lowest of these due or R, T, P and N
+-- then it fills the lists, also when 2 to 6 follow, and answers the lowest of these due or the version with R, T, P and N
 pub record Reads (file : List ℕ) (before : Lists) (said : Outcome Counts) (after : Lists) : Type 0 where
   pub answer : said ≡ unlessDue (grammarOf file (countsOf file)) (answers (countsOf file))
   pub left : after ≡ filled (grammarOf file (countsOf file)) before

@@ -89,8 +89,8 @@ stretchOf g p = stretchAt (at (g .starts) p) (productionOf g p)
 
 -- the counts that were read; all 0 beside a refusal
 abbrev pub countsOf : Outcome Sizes → Counts
-countsOf (answers c) = record { refusal = 0; rules = c .rules; tokens = c .tokens; prods = c .prods; symbols = c .symbols }
-countsOf (refused n) = record { refusal = n; rules = 0; tokens = 0; prods = 0; symbols = 0 }
+countsOf (answers c) = record { refusal = 0; rules = c .rules; tokens = c .tokens; prods = c .prods; symbols = c .symbols; version = c .version }
+countsOf (refused n) = record { refusal = n; rules = 0; tokens = 0; prods = 0; symbols = 0; version = 0 }
 
 abbrev pub countsAnswer : Reading → Counts
 countsAnswer r = countsOf (readingIs r)

@@ -9,7 +9,8 @@
 //!
 //! What is flattened can be stored as a block file, with [`Grammar::to_blocks`] or [`Grammar::write_blocks`], and read
 //! again with [`Grammar::from_blocks`], without the grammar's text: it is the same grammar, with the same numbers. A
-//! block file has no names; those stay with the `YaccGrammar`.
+//! block file has no names; those stay with the `YaccGrammar`. In version 2 every token but eof costs at least 1, so the
+//! costs that `flatten` is given decide whether it takes the grammar; version 1 takes any.
 #![deny(missing_docs, unsafe_code)]
 #![warn(clippy::missing_errors_doc)]
 

@@ -4,7 +4,7 @@ use std::collections::HashMap;
 use std::fs;
 use std::path::{Path, PathBuf};
 
-use boltmarrow::{Grammar, Mode, Refusal};
+use boltmarrow::{Grammar, Mode, Refusal, Version};
 use boltmarrow_cfgrammar::{flatten, prod, prod_of, rule, rule_of, token, token_of};
 use cfgrammar::yacc::{YaccGrammar, YaccKind, YaccOriginalActionKind};
 
@@ -78,7 +78,7 @@ fn a_flattened_grammar_is_stored_and_read() -> Result<(), Refusal> {
     let prods = "prod Row rule:Num rule:Unit token:,\nprod Num token:digits\nprod Unit token:unit\nprod Unit";
     let grm = yacc(&[names, prods].concat());
     let flat = flatten(&grm, |tidx| 1 + tidx.as_storaget() as u8)?;
-    let stored = Grammar::from_blocks(&flat.to_blocks())?;
+    let stored = Grammar::from_blocks(&flat.to_blocks(Version::Two)?)?;
     assert_eq!(stored, flat);
     let (num, comma) = (grm.rule_idx("Num").unwrap(), grm.token_idx(",").unwrap());
     assert!(stored.follows(Mode::Corrected).is_set(rule(num), token(comma))?);
@@ -225,7 +225,8 @@ fn examples_have_the_crates_own_answers() {
         let (renumbered, grm) = as_the_crate(example);
         let flat = flatten(&grm, |tidx| renumbered.token_cost(token(tidx)).unwrap()).unwrap();
         assert_eq!(flat, renumbered, "{name}");
-        assert_eq!(Grammar::from_blocks(&flat.to_blocks()), Ok(renumbered), "{name}");
+        let file = flat.to_blocks(Version::One).unwrap();
+        assert_eq!(Grammar::from_blocks(&file), Ok(renumbered), "{name}");
         numbers_go_back(&name, &flat, &grm);
         marks_are_equal(&name, &flat, &grm);
         paths_are_equal(&name, &flat, &grm);

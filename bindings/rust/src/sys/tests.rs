@@ -1,4 +1,5 @@
-//! What no safe call can do: tables of other lengths, short buffers and other modes, for each call that takes one.
+//! What no safe call can do: tables of other lengths, short buffers, other modes and versions, for each call that takes
+//! one.
 use super::*;
 
 const G1: Flat = Flat {
@@ -59,14 +60,30 @@ fn seven_for_the_readers_lists() {
 fn twenty_four_for_a_short_buffer() {
     for len in [0, 1, 511] {
         let mut out = vec![9; len];
-        assert_eq!(refused(write_blocks(G1, &mut out)), 24, "{len} bytes");
+        assert_eq!(refused(write_blocks(G1, 1, &mut out)), 24, "{len} bytes");
+        assert_eq!(refused(write_blocks(G1, 2, &mut out)), 24, "{len} bytes");
         assert_eq!(out, vec![9; len]);
     }
     let (mut exact, mut longer) = ([9; 512], [9; 513]);
-    assert_eq!(write_blocks(G1, &mut exact).number(), Ok(512));
-    assert_eq!(write_blocks(G1, &mut longer).number(), Ok(512));
+    assert_eq!(write_blocks(G1, 1, &mut exact).number(), Ok(512));
+    assert_eq!(write_blocks(G1, 1, &mut longer).number(), Ok(512));
     assert_eq!((&longer[..512], longer[512]), (&exact[..], 9));
     assert_eq!(exact[510..], 459u16.to_le_bytes());
+}
+
+/// 25 before 24, and 26 before both.
+#[test]
+fn twenty_five_and_twenty_six_come_before_twenty_four() {
+    let free = Flat { costs: &[1, 0, 1, 1], ..G1 };
+    for len in [0, 511, 600] {
+        let mut out = vec![9; len];
+        assert_eq!(refused(write_blocks(free, 2, &mut out)), 25, "{len} bytes");
+        for version in [0, 3, 257, 258, 65535] {
+            assert_eq!(refused(write_blocks(G1, version, &mut out)), 26, "version {version}, {len} bytes");
+            assert_eq!(refused(write_blocks(free, version, &mut out)), 26, "version {version}, {len} bytes");
+        }
+        assert_eq!(out, vec![9; len]);
+    }
 }
 
 #[test]
@@ -92,7 +109,9 @@ fn a_refused_grammar_ends_every_call_first() {
     assert_eq!(table, [9; 3]);
     for len in [0, 511, 600] {
         let mut out = vec![9; len];
-        assert_eq!(refused(write_blocks(wrong, &mut out)), 1, "{len} bytes");
+        assert_eq!(refused(write_blocks(wrong, 1, &mut out)), 1, "{len} bytes");
+        assert_eq!(refused(write_blocks(Flat { costs: &[0; 4], ..wrong }, 2, &mut out)), 1, "{len} bytes");
+        assert_eq!(refused(write_blocks(wrong, 3, &mut out)), 26, "{len} bytes");
         assert_eq!(out, vec![9; len]);
     }
 }

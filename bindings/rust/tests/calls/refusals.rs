@@ -1,4 +1,5 @@
-//! Each refusal of a grammar and of a number; tests/calls/files.rs has those of a file, src/sys/tests.rs 7, 8 and 24.
+//! Each refusal of a grammar and of a number; tests/calls/files.rs has those of a file, src/sys/tests.rs 7, 8, 24 and the
+//! writer's order.
 use std::collections::HashSet;
 
 use boltmarrow::{Grammar, Mode, PIdx, RIdx, Refusal, TIdx};
@@ -8,7 +9,7 @@ use crate::grammars::{built, g1, g1_tables, of, well, RULE};
 #[test]
 fn numbers_are_the_documents() {
     let numbers: Vec<u32> = Refusal::ALL.iter().map(|refusal| refusal.number()).collect();
-    assert_eq!(numbers, [1, 2, 3, 4, 5, 6, 7, 8, 9, 10, 11, 12, 13, 14, 15, 20, 21, 22, 23, 24]);
+    assert_eq!(numbers, [1, 2, 3, 4, 5, 6, 7, 8, 9, 10, 11, 12, 13, 14, 15, 20, 21, 22, 23, 24, 25, 26]);
 }
 
 #[test]

@@ -36,7 +36,7 @@ grammar-report-requires c κs =
     let n = t .before in
     let p = n .before in
     let s = p .before .before .before .before .before .before in
-    (fronts-well _ _ _ _ _ _ _ _ (p .wide .ensures .0) (n .wide2 .ensures .0) (t .wide3 .ensures .0) (s .pre .1 .0), s .pre .1 .1)
+    (fronts-well (s .args .c) _ _ _ _ _ _ _ (p .wide .ensures .0) (n .wide2 .ensures .0) (t .wide3 .ensures .0) (s .pre .1 .0), s .pre .1 .1)
 
 same-length : tie.Need-same-length
 same-length c = search needs
@@ -47,7 +47,8 @@ returns c =
     let t = a .before .before .before .before .before .before in
     let n = t .before in
     let p = n .before in
-    (a .grammar-report .ensures .0, fronts-report _ _ _ _ _ _ _ _ (p .wide .ensures .0) (n .wide2 .ensures .0) (t .wide3 .ensures .0) _ (a .grammar-report .ensures .1))
+    let s = p .before .before .before .before .before .before in
+    (a .grammar-report .ensures .0, fronts-report (s .args .c) _ _ _ _ _ _ _ (p .wide .ensures .0) (n .wide2 .ensures .0) (t .wide3 .ensures .0) _ (a .grammar-report .ensures .1))
 
 pub fronts-report-spec : {M : Type 1} → statement M
 fronts-report-spec =

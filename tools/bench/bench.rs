@@ -1,12 +1,14 @@
-//! Times the Rust crate and the library on the same grammars, and the library's visits and queries beside its check.
+//! Times the Rust crate, the fills in plain C and the library on the same grammars, and the library's visits and queries
+//! beside its check.
 //!
 //!     bench                     at the repository's top; prints two tables
 //!     bench costs PLACE         ends once the Rust has the costs of the grammar at that place of the list
 //!
-//! Before a grammar is timed the two are held to each other: FIRST, EMPTY, FOLLOW in the crate's mode, and the costs
-//! where the Rust returns.
+//! Before a grammar is timed the three are held to each other: FIRST, EMPTY, FOLLOW, in the Rust only the crate's mode,
+//! and the costs, in the Rust only where it returns.
 mod clock;
 mod grammars;
+mod plain;
 #[path = "../oracle/text.rs"]
 mod text;
 
@@ -19,8 +21,9 @@ use boltmarrow::{Grammar, Mode, PIdx, RIdx, TIdx};
 use boltmarrow_cfgrammar::{flatten, rule, token};
 use cfgrammar::yacc::{YaccGrammar, YaccKind, YaccOriginalActionKind};
 
-use clock::{Times, both};
+use clock::{Times, turns};
 use grammars::Given;
+use plain::Plain;
 
 /// How long the Rust may take for its costs before it is taken not to return.
 const PATIENCE: Duration = Duration::from_secs(5);
@@ -66,6 +69,26 @@ fn hold_costs(grm: &YaccGrammar<u16>, flat: &Grammar, costs: &[u8]) {
     assert_eq!(ours, rust_costs(grm, costs).into_iter().map(Some).collect::<Vec<_>>());
 }
 
+/// What C leaves is what the library does.
+fn hold_plain(plain: &Plain, flat: &Grammar) {
+    let width = usize::from(flat.tokens_len()).div_ceil(32);
+    let bit = |table: &[u32], place: usize, mark: usize| table[place + mark / 32] >> (mark % 32) & 1 == 1;
+    let [first, empty] = plain.firsts();
+    let [one, two] = [Mode::Crate, Mode::Corrected].map(|mode| (plain.follows(mode as u32), flat.follows(mode)));
+    let (firsts, costs, cost) = (flat.firsts(), plain.costs(), flat.costs());
+    for ridx in flat.iter_rules() {
+        let r = usize::from(ridx);
+        for tidx in flat.iter_tidxs() {
+            assert_eq!(firsts.is_set(ridx, tidx), Ok(bit(&first, r * width, tidx.into())));
+            for (plain, ours) in [&one, &two] {
+                assert_eq!(ours.is_set(ridx, tidx), Ok(bit(&plain[0], r * width, tidx.into())));
+            }
+        }
+        assert_eq!(firsts.is_epsilon_set(ridx), Ok(bit(&empty, 0, r)));
+        assert_eq!(cost.cost(ridx), Ok(u16::try_from(costs[r]).ok()));
+    }
+}
+
 /// Whether the Rust returns the costs of the grammar at that place, found out by a process of its own.
 fn costs_return(place: usize) -> bool {
     let this = std::env::current_exe().expect("the program has a name");
@@ -83,27 +106,45 @@ fn costs_return(place: usize) -> bool {
 }
 
 fn microseconds(seconds: f64) -> String {
-    format!("{:.1}", seconds * 1e6)
+    format!("{:.2}", seconds * 1e6)
 }
 
-fn line(name: &str, what: &str, rust: &mut dyn FnMut(), ours: &mut dyn FnMut()) {
-    let (rust, ours) = both(rust, ours);
-    let shown = [rust.least, rust.median, ours.least, ours.median].map(microseconds).join(" | ");
-    println!("| {name} | {what} | {shown} | {:.2} | {:.2} |", rust.least / ours.least, rust.median / ours.median);
+/// A line of the first table: least times, and what they are divided by each other.
+fn line(name: &str, what: &str, rust: Option<&mut dyn FnMut()>, plain: &mut dyn FnMut(), ours: &mut dyn FnMut()) {
+    let (rust, plain, ours) = match rust {
+        Some(rust) => {
+            let [rust, plain, ours] = turns([rust, plain, ours]);
+            (Some(rust.least), plain.least, ours.least)
+        }
+        None => {
+            let [plain, ours] = turns([plain, ours]);
+            (None, plain.least, ours.least)
+        }
+    };
+    let times = [plain, ours].map(microseconds).join(" | ");
+    let beside = rust.map_or("".into(), |rust| format!("{:.2}", rust / ours));
+    println!("| {name} | {what} | {} | {times} | {:.2} | {beside} |", rust.map_or("".into(), microseconds), ours / plain);
 }
 
 fn fills(place: usize, given: &Given) {
-    let (grm, flat) = built(given);
-    hold_marks(&grm, &flat);
-    line(given.name, "FIRST", &mut || keep(grm.firsts()), &mut || keep(flat.firsts()));
-    line(given.name, "FOLLOW", &mut || keep(grm.follows()), &mut || keep(flat.follows(Mode::Crate)));
-    if !costs_return(place) {
-        println!("| {} | costs | the Rust does not return | | | | | |", given.name);
-        return;
+    let (grm, flat) = &built(given);
+    let plain = Plain::new(built(given).1);
+    let name = given.name;
+    hold_marks(grm, flat);
+    hold_plain(&plain, flat);
+    let mut check = check_alone(flat);
+    line(name, "check", None, &mut || keep(plain.check()), &mut check);
+    line(name, "FIRST", Some(&mut || keep(grm.firsts())), &mut || keep(plain.firsts()), &mut || keep(flat.firsts()));
+    let [mut one, mut two] = [Mode::Crate, Mode::Corrected].map(|mode| move || keep(flat.follows(mode)));
+    line(name, "FOLLOW, mode 1", Some(&mut || keep(grm.follows())), &mut || keep(plain.follows(1)), &mut one);
+    line(name, "FOLLOW, mode 2", None, &mut || keep(plain.follows(2)), &mut two);
+    let returns = costs_return(place);
+    if returns {
+        hold_costs(grm, flat, &given.costs);
     }
-    hold_costs(&grm, &flat, &given.costs);
-    let rust = &mut || keep(rust_costs(&grm, &given.costs));
-    line(given.name, "costs", rust, &mut || keep(flat.costs()));
+    let mut rust = || keep(rust_costs(grm, &given.costs));
+    let rust: Option<&mut dyn FnMut()> = if returns { Some(&mut rust) } else { None };
+    line(name, "COST", rust, &mut || keep(plain.costs()), &mut || keep(flat.costs()));
 }
 
 /// One call of each kind on the grammar, in turn with the check alone. A visit takes the productions in turn, on a
@@ -136,19 +177,21 @@ fn beside_check(flat: &Grammar) {
     check_line(flat, "min_sentence", &mut || keep(sentences.min_sentence(RIdx(1))));
 }
 
-/// The check alone is a visit with a number that no production has: it is refused once the grammar is checked.
-fn check_line(flat: &Grammar, what: &str, call: &mut dyn FnMut()) {
+/// The check alone: a visit with a number that no production has is refused once the grammar is checked.
+fn check_alone(flat: &Grammar) -> impl FnMut() {
     let mut table = flat.productive_table();
-    let check = &mut || keep(table.visit(PIdx(u16::MAX)));
-    let (call, check) = both(call, check);
-    let shown = |times: Times| [times.least, times.median].map(microseconds).join(" | ");
-    let ratio = call.median / check.median;
-    println!("| {what} | {} | {} | {ratio:.2} |", shown(call), shown(check));
+    move || keep(table.visit(PIdx(u16::MAX)))
+}
+
+fn check_line(flat: &Grammar, what: &str, call: &mut dyn FnMut()) {
+    let [call, check] = turns([call, &mut check_alone(flat)]);
+    let shown = |times: &Times| [times.least, times.median].map(microseconds).join(" | ");
+    println!("| {what} | {} | {} | {:.2} |", shown(&call), shown(&check), call.least / check.least);
 }
 
 fn tables(given: &[Given]) {
-    println!("| grammar | fill | Rust, least | median | ours, least | median | Rust / ours, least | median |");
-    println!("|---|---|---|---|---|---|---|---|");
+    println!("| grammar | fill | Rust | C | ours | ours / C | Rust / ours |");
+    println!("|---|---|---|---|---|---|---|");
     for (place, given) in given.iter().enumerate() {
         fills(place, given);
     }

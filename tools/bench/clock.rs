@@ -23,9 +23,9 @@ fn used() -> f64 {
 
 /// A sample is as many calls as take this long; so are measured again and again until this much is used.
 const SAMPLE: f64 = 0.002;
-const ENOUGH: f64 = 1.0;
-const LEAST_SAMPLES: usize = 5;
-const MOST_SAMPLES: usize = 51;
+const ENOUGH: f64 = 2.0;
+const LEAST_SAMPLES: usize = 7;
+const MOST_SAMPLES: usize = 151;
 
 /// The seconds of one call, from many calls.
 pub struct Times {
@@ -64,17 +64,18 @@ impl<'a> Sampled<'a> {
     }
 }
 
-/// The times of two calls, whose samples take turns so that a slow moment of the machine meets both.
-pub fn both(one: &mut dyn FnMut(), other: &mut dyn FnMut()) -> (Times, Times) {
-    let (mut one, mut other) = (Sampled::new(one), Sampled::new(other));
+/// The times of some calls, whose samples take turns so that a slow moment of the machine meets all of them.
+pub fn turns<const N: usize>(calls: [&mut dyn FnMut(); N]) -> [Times; N] {
+    let mut sampled = calls.map(Sampled::new);
     let start = used();
     for samples in 1..=MOST_SAMPLES {
-        let (a, b) = (one.sample(), other.sample());
-        one.seconds.push(a);
-        other.seconds.push(b);
+        for one in &mut sampled {
+            let seconds = one.sample();
+            one.seconds.push(seconds);
+        }
         if samples >= LEAST_SAMPLES && used() - start > ENOUGH {
             break;
         }
     }
-    (one.times(), other.times())
+    sampled.map(Sampled::times)
 }

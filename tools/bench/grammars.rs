@@ -30,6 +30,8 @@ pub fn all() -> Vec<Given> {
         random("random, mostly rules, a quarter empty", Shape { seed: 3, tokens: 10, empty: 25, closed: false }),
         rising_chain(),
         falling_chain(),
+        long_chain("long chain, each rule is the next and 30 tokens", |r| r + 1),
+        long_chain("long chain, each rule is the one before and 30 tokens", |r| r - 1),
         empty(),
     ]
 }
@@ -135,6 +137,18 @@ fn falling_chain() -> Given {
     prods.extend((2..RULES).map(|r| (r, vec![RULE + r - 1])));
     prods.push((0, vec![RULE + RULES - 1]));
     Given { name: "chain, each rule is the one before", rules: RULES, costs: vec![1; TOKENS.into()], prods }
+}
+
+/// Rule r is the rule that `next` gives and 30 tokens; where that is none, the tokens alone. The start is the last rule
+/// that a chain comes to. 15,811 symbols.
+fn long_chain(name: &'static str, next: impl Fn(u16) -> u16) -> Given {
+    let own = |r: u16| (0..30).map(move |k| (r * 30 + k) % (TOKENS - 1));
+    let inner = |r: &u16| (1..RULES).contains(r);
+    let body = |r: u16| Some(next(r)).filter(inner).map(|r| RULE + r).into_iter().chain(own(r)).collect();
+    let mut prods: Vec<(u16, Vec<u16>)> = (1..RULES).map(|r| (r, body(r))).collect();
+    let start = if next(1) == 2 { 1 } else { RULES - 1 };
+    prods.push((0, vec![RULE + start]));
+    Given { name, rules: RULES, costs: vec![1; TOKENS.into()], prods }
 }
 
 /// Each rule is nothing, a token of its own, or the next 31 rules, as far as there are so many.

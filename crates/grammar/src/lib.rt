@@ -2,11 +2,12 @@
 pub mod inner;
 
 ghost use mathlib.Core.Path.{_≡_};
-ghost use mathlib.Core.Bool.{false};
+ghost use mathlib.Core.Bool.{false, _&&_, _||_};
 ghost use Prim.Native.Nat.{ℕ, _+_, _≤_, _<_};
+ghost use lib.Dec.{leb, ltb};
 ghost use lib.ListN.{length, getD};
 ghost use Rattle.grammar.specs.Flat.{flat, at};
-ghost use Rattle.grammar.specs.Refusals.{falls, startsWrong, ownerOut, owns, ruleUnowned, symbolOut, symbolsOut, startCount, oneRule, startLong, startHeld, startWrong};
+ghost use Rattle.grammar.specs.Refusals.{falls, startsWrong, ownerOut, owns, ruleUnowned, symbolsOut, startCount, oneRule, startLong, startHeld, startWrong};
 ghost use Rattle.grammar.specs.Well.{Laid};
 ghost use Rattle.grammar.specs.Production.{checkedIs, lengthIs, checkOf, productionOf, lengthOf, Front, Produces};
 ghost use denote.Ref.{ptr};
@@ -37,14 +38,13 @@ fn starts_fall(starts: &[u16], prods: usize) -> bool
     requires { ⌜ prods < length (now starts) ⌝ }
     ensures { λ r. ⌜ r ≡ falls prods (now (starts .entry)) ⌝ }
 {
+    let mut falls = false;
     let mut p: usize = 0;
     while p < prods {
-        if starts[p + 1] < starts[p] {
-            return true;
-        }
+        falls = falls | (starts[p + 1] < starts[p]);
         p += 1;
     }
-    false
+    falls
 }
 
 // Refusal 2. The starts may be any list, the empty one included.
@@ -68,14 +68,13 @@ fn starts_wrong(starts: &[u16], prods: usize, symbols: usize) -> bool
 fn owner_out(rules: u16, owners: &[u16]) -> bool
     ensures { λ r. ⌜ r ≡ ownerOut rules (now (owners .entry)) ⌝ }
 {
+    let mut out = false;
     let mut p: usize = 0;
     while p < owners.len() {
-        if rules <= owners[p] {
-            return true;
-        }
+        out = out | (rules <= owners[p]);
         p += 1;
     }
-    false
+    out
 }
 
 // Which rules own a production: one pass, so that refusal 4 needs no scan of all productions for
@@ -109,27 +108,27 @@ fn rule_unowned(rules: u16, owners: &[u16]) -> bool
     false
 }
 
-fn symbol_out(rules: u16, tokens: usize, symbol: u16) -> bool
-    ensures { λ r. ⌜ r ≡ symbolOut rules tokens symbol ⌝ }
+// Whether a symbol is a token from `eof` on or a rule from `top` on.
+fn symbol_out(eof: u16, top: u16, symbol: u16) -> bool
+    ensures { λ r. ⌜ r ≡ (leb top symbol || (leb eof symbol && ltb symbol 32768)) ⌝ }
 {
-    if symbol < 32768 {
-        return tokens <= wide(symbol) + 1;
-    }
-    rules <= symbol - 32768
+    (top <= symbol) | ((eof <= symbol) & (symbol < 32768))
 }
 
-// Refusal 5.
+// Refusal 5, once 1 is not due.
 fn symbols_out(rules: u16, tokens: usize, symbols: &[u16]) -> bool
+    requires { ⌜ (rules ≤ 512) × (0 < tokens) × (tokens ≤ 512) ⌝ }
     ensures { λ r. ⌜ r ≡ symbolsOut rules tokens (now (symbols .entry)) ⌝ }
 {
+    let eof = (tokens - 1) as u16;
+    let top = 32768 + rules;
+    let mut out = false;
     let mut k: usize = 0;
     while k < symbols.len() {
-        if symbol_out(rules, tokens, symbols[k]) {
-            return true;
-        }
+        out = out | symbol_out(eof, top, symbols[k]);
         k += 1;
     }
-    false
+    out
 }
 
 fn start_count(owners: &[u16]) -> usize
@@ -176,14 +175,13 @@ fn start_long(owners: &[u16], starts: &[u16], symbols: &[u16]) -> bool
 fn start_held(symbols: &[u16]) -> bool
     ensures { λ r. ⌜ r ≡ startHeld (now (symbols .entry)) ⌝ }
 {
+    let mut held = false;
     let mut k: usize = 0;
     while k < symbols.len() {
-        if symbols[k] == 32768 {
-            return true;
-        }
+        held = held | (symbols[k] == 32768);
         k += 1;
     }
-    false
+    held
 }
 
 // Refusal 6, once 2 is not due.

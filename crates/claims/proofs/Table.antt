@@ -1,15 +1,15 @@
 -- Document 01's starred lines, proved together.
 use mathlib.Core.Path.{refl}
-use Rattle.theory.specs.Below.{some, count}
-use Rattle.grammar.specs.Refusals.{sizesOut, falls, startsWrong, ownerOut, owns, ruleUnowned, symbolOut, symbolsOut, startCount, oneRule, startLong, startHeld, startWrong, unlessDue}
+use Rattle.theory.specs.Below.{some}
+use Rattle.grammar.specs.Refusals.{sizesOut, falls, startsWrong, ownerOut, owns, ruleUnowned, symbolOut, symbolsOut, oneRule, startLong, startHeld, startWrong, unlessDue}
 use Rattle.claims.specs.Claims.{AllMean, starred, repeats}
 use Rattle.claims.proofs.Decided.{all-decided}
 
 pub table : AllMean starred
-unfolding some count sizesOut falls startsWrong ownerOut owns ruleUnowned symbolOut symbolsOut startCount oneRule startLong startHeld startWrong unlessDue
+unfolding some sizesOut falls startsWrong ownerOut owns ruleUnowned symbolOut symbolsOut oneRule startLong startHeld startWrong unlessDue
 table = all-decided starred refl
 
 -- and what it says of the Rust on G1
 pub again : AllMean repeats
-unfolding some count sizesOut falls startsWrong ownerOut owns ruleUnowned symbolOut symbolsOut startCount oneRule startLong startHeld startWrong unlessDue
+unfolding some sizesOut falls startsWrong ownerOut owns ruleUnowned symbolOut symbolsOut oneRule startLong startHeld startWrong unlessDue
 again = all-decided repeats refl

@@ -2,12 +2,12 @@
 
     tools/damage.py CALLS SEED PROGRAM..       PROGRAM: what runs target/c/calls
 
-A call's grammar is of a shape of tools/grammars.py, as it is or with refusals made due, one or two, or a list cut,
-lengthened, emptied or with an entry replaced. Tables hold anything, spare bits and entries above 65536 included, and
-may be of a wrong length; numbers may be out of range, room short. A block file is of either version and has what a file
-can have wrong; one that is written must be bin/blocks' own. The answer and every element of every list must be equal. It
-prints how often each call gave each refusal, 0 for an answer; it exits with 1 if an answer differs, or if of the usual
-number of calls none gave some refusal that the call can give.
+A call's grammar is of a shape of tools/grammars.py, in one of four with further productions of rule 0; as it is or with
+refusals made due, one or two, or a list cut, lengthened, emptied or with an entry replaced. Tables hold anything, spare
+bits and entries above 65536 included, and may be of a wrong length; numbers may be out of range, room short. A block
+file is of either version and has what a file can have wrong; one that is written must be bin/blocks' own. The answer
+and every element of every list must be equal. It prints how often each call gave each refusal, 0 for an answer; it
+exits with 1 if an answer differs, or if of the usual number of calls none gave some refusal that the call can give.
 """
 import array
 import collections
@@ -61,8 +61,10 @@ def edited_grammar(draw, g):
 
 
 def any_grammar(draw, quick=QUICK):
-    """A grammar of some shape, as it is in two of three, else damaged."""
+    """A grammar of some shape, with several exports in one of four; as it is in two of three, else damaged."""
     g = grammars.shapes[draw.choice(quick if draw.random() < 0.97 else SLOW)](draw)
+    if draw.random() < 0.25:
+        g = grammars.more_starts(draw, g)
     chance = draw.random()
     if chance < 0.67:
         return g

@@ -1,8 +1,9 @@
 """Flat grammars to compare with: all small ones, random ones by shape, and damaged ones.
 
 small() gives every grammar within a bound, in a fixed order. shapes has a function for each shape of well-formed
-grammar, of a random.Random: one seed gives the same grammars again. damages has a function for each refusal 1 to 6, of
-a random.Random and a grammar, that makes this refusal due. A grammar is plain.Grammar; line() is its form for
+grammar, of a random.Random: one seed gives the same grammars again. In all of these rule 0 owns one production, so that
+the Rust crate builds them too; more_starts() gives a grammar further ones. damages has a function for each refusal 1 to
+6, of a random.Random and a grammar, that makes this refusal due. A grammar is plain.Grammar; line() is its form for
 tools/oracle.
 """
 import itertools
@@ -340,7 +341,27 @@ shapes = {shape.__name__: shape for shape in (
     single_file, wide_tokens, many_rules, wide_both)} | large
 
 
-# Damage. Each function makes its refusal due, whatever else is due; a lower one may come to be due with it.
+# Several exports.
+
+
+def put_production(draw, g, owner, body):
+    """The grammar with this production at some place."""
+    bodies = g.productions()
+    bodies.insert(draw.randint(0, len(bodies)), (owner, body))
+    return grammar(g.rules, g.costs, bodies)
+
+
+def more_starts(draw, g):
+    """The well-formed grammar with one or two further productions of rule 0, as long as the limits have room: each is
+    any rule but rule 0, one that is an export already too."""
+    room = min(MOST_PRODUCTIONS - len(g.owners), MOST_SYMBOLS - len(g.symbols))
+    for _ in range(min(draw.randint(1, 2), room)):
+        g = put_production(draw, g, 0, [RULE + draw.randrange(1, g.rules)])
+    return g
+
+
+# Damage. Each function makes its refusal due, whatever else is due; a lower one may come to be due with it. That of 6
+# takes a well-formed grammar.
 
 
 def replaced(draw, items, value):
@@ -391,14 +412,21 @@ def symbols_out(draw, g):
     return g._replace(symbols=replaced(draw, g.symbols, draw.choice(beyond)))
 
 
+def no_export(draw, g):
+    """What no production of rule 0 may be: nothing, two symbols, a token, rule 0."""
+    rules = [RULE + draw.randrange(1, g.rules) for _ in range(2)]
+    return draw.choice(([], rules, rules[:1] + [0], [draw.randrange(len(g.costs))], [RULE]))
+
+
 def start_wrong(draw, g):
-    """6"""
-    own = g.owners.index(0) if 0 in g.owners else 0
-    at = g.starts[own] if own < len(g.starts) else 0
+    """6: one of rule 0's productions is wrong, a further one is, or rule 0 stands somewhere."""
+    bodies = g.productions()
+    own = draw.choice([p for p, (owner, _) in enumerate(bodies) if owner == 0])
+    bodies[own] = 0, no_export(draw, g)
     return draw.choice((
-        g._replace(owners=[0] + g.owners[1:] if own else g.owners[:1] + [0] + g.owners[2:]),
+        grammar(g.rules, g.costs, bodies),
+        put_production(draw, g, 0, no_export(draw, g)),
         g._replace(symbols=replaced(draw, g.symbols, RULE)),
-        g._replace(symbols=g.symbols[:at] + [0] + g.symbols[at + 1 :]),
     ))
 
 
@@ -406,7 +434,8 @@ damages = {1: sizes_out, 2: starts_wrong, 3: owner_out, 4: rule_unowned, 5: symb
 
 
 def damaged(draw, g, numbers):
-    """The grammar with these refusals made due, the highest first: a lower one's damage leaves a higher one due."""
+    """The well-formed grammar with these refusals made due, the highest first: a lower one's damage leaves a higher one
+    due."""
     for number in sorted(numbers, reverse=True):
         g = damages[number](draw, g)
     return g

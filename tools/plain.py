@@ -1,7 +1,7 @@
 #!/usr/bin/env python3
 """Document 01 once more, plain and slow: sets, recursion and whole numbers of any size; of document 02 the versions of
-the block file. It is written from those texts, with the readings of their open points in docs/DECISIONS.md, and from no
-crate.
+the block file and several exports in one grammar. It is written from those texts, with the readings of their open
+points in docs/DECISIONS.md, and from no crate.
 
     tools/plain.py report FILE         the report of a block file; '-' stands for standard input
 
@@ -67,10 +67,14 @@ def refusal(g):
         return 4
     if any(s >= T - 1 if s < RULE else s - RULE >= R for s in g.symbols):
         return 5
-    own = [body for owner, body in g.productions() if owner == 0]
-    if len(own) != 1 or len(own[0]) != 1 or own[0][0] < RULE or RULE in g.symbols:
+    if any(owner == 0 and (len(body) != 1 or body[0] < RULE) for owner, body in g.productions()) or RULE in g.symbols:
         return 6
     return 0
+
+
+def built(g):
+    """Whether the Rust crate builds such a grammar: it is well-formed, and rule 0 owns one production."""
+    return refusal(g) == 0 and g.owners.count(0) == 1
 
 
 def check(g):

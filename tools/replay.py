@@ -4,12 +4,12 @@
     tools/replay.py          writes crates/replay/stdin, the grammars, and crates/replay/stdout, the answers
 
 The Rust's productions are the grammar's, which the oracle has seen to: a line for each, and then one for each rule.
-The sample is the well-formed grammars of tools/named.py, and of each shape of tools/grammars.py the first so many from
-one seed whose lines take no more bytes than SIZES says; at_limits and most_rules are too long for it. A rule's line has
-what the Rust gave: EMPTY, FIRST, FOLLOW, the rules to which there is a path; its cost, if the costs came back; and its
-sentence, if that came back and no production used has the place at which document 01 says that the Rust's differs (only
-this is worked out here, by tools/reading.py; no answer is). What did not come back stays empty, and `stdin` says of
-each rule which it is.
+The sample is those well-formed grammars of tools/named.py that the Rust builds, and of each shape of tools/grammars.py
+the first so many from one seed whose lines take no more bytes than SIZES says; at_limits and most_rules are too long
+for it. A rule's line has what the Rust gave: EMPTY, FIRST, FOLLOW, the rules to which there is a path; its cost, if the
+costs came back; and its sentence, if that came back and no production used has the place at which document 01 says that
+the Rust's differs (only this is worked out here, by tools/reading.py; no answer is). What did not come back stays
+empty, and `stdin` says of each rule which it is.
 """
 import random
 import sys
@@ -73,7 +73,7 @@ def short(ask, shape, most, count):
 
 def main():
     ask = compare.Asked([*compare.ORACLE, str(compare.AGAIN)])
-    pairs = [stored(g, ask(g)) for _, g in named.named() if plain.refusal(g) == 0]
+    pairs = [stored(g, ask(g)) for _, g in named.named() if plain.built(g)]
     for shape, (most, count) in SIZES.items():
         pairs += short(ask, shape, most, count)
     (FOLDER / "stdin").write_text(f"{len(pairs)}\n" + "".join(given for given, _ in pairs))

@@ -21,14 +21,14 @@ class Small(unittest.TestCase):
         every = list(grammars.small())
         self.assertEqual(len(every), 20559)
         self.assertEqual(len({grammars.line(g) for g in every}), 20559)
-        self.assertTrue(all(plain.refusal(g) == 0 for g in every))
+        self.assertTrue(all(plain.built(g) for g in every))
 
 
 class Shapes(unittest.TestCase):
-    def test_well_formed(self):
+    def test_well_formed_and_built_by_the_rust(self):
         for name, shape in grammars.shapes.items():
             for seed in range(2 if name in grammars.large else 50):
-                self.assertEqual(plain.refusal(shape(random.Random(seed))), 0, f"{name} {seed}")
+                self.assertTrue(plain.built(shape(random.Random(seed))), f"{name} {seed}")
 
     def test_seed(self):
         for name, shape in grammars.shapes.items():
@@ -37,6 +37,18 @@ class Shapes(unittest.TestCase):
     def test_limits(self):
         g = grammars.at_limits(random.Random(1))
         self.assertEqual((g.rules, len(g.costs), len(g.owners), len(g.symbols)), (512, 512, 4096, 16384))
+        self.assertEqual(grammars.more_starts(random.Random(1), g), g)
+
+    def test_more_starts(self):
+        draw, counts, twice = random.Random(1), set(), 0
+        for _ in range(200):
+            g = grammars.more_starts(draw, grammars.anything(draw))
+            own = [body for owner, body in g.productions() if owner == 0]
+            self.assertEqual((plain.refusal(g), plain.built(g)), (0, False))
+            counts.add(len(own))
+            twice += len({body[0] for body in own}) < len(own)
+        self.assertEqual(counts, {2, 3})
+        self.assertTrue(0 < twice < 200)
 
     def test_line(self):
         self.assertEqual(grammars.line(G1), "4 4 6 7 1 2 2 3 3 0 0 3 4 4 6 6 7 32770 0 32771 2 1 0 32769 1 1 1 1")
@@ -49,6 +61,20 @@ class Damage(unittest.TestCase):
             seen = {plain.refusal(grammars.damaged(draw, grammars.anything(draw), numbers)) for _ in range(100)}
             self.assertIn(numbers[0], seen)
             self.assertTrue(seen <= set(range(1, numbers[0] + 1)), f"{numbers}: {seen}")
+
+    def test_one_of_several_starts_is_wrong(self):
+        """Nothing, two symbols, a token and rule 0, each in the first and in the last production of rule 0, the others
+        being right."""
+        draw, seen = random.Random(2), set()
+        for _ in range(2000):
+            g = grammars.damaged(draw, grammars.more_starts(draw, grammars.way_out(draw)), [6])
+            own = [body for owner, body in g.productions() if owner == 0]
+            right = [len(body) == 1 and body[0] > plain.RULE for body in own]
+            if plain.refusal(g) == 6 and len(own) > 1 and right.count(False) == 1:
+                body = own[right.index(False)]
+                kind = "rule 0" if body == [plain.RULE] else min(len(body), 2)
+                seen |= {(place, kind) for place in (0, -1) if not right[place]}
+        self.assertEqual(seen, set(itertools.product((0, -1), (0, 1, 2, "rule 0"))))
 
 
 class Calls(unittest.TestCase):

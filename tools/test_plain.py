@@ -24,6 +24,12 @@ def block_file(numbers, costs=b"", number=0):
     return block + struct.pack("<H", sum(block) % 65536)
 
 
+def exported(g, body):
+    """The grammar with one more production of rule 0, behind the others."""
+    end = g.starts[-1] + len(body)
+    return g._replace(owners=g.owners + [0], starts=g.starts + [end], symbols=g.symbols + body)
+
+
 def refused(call, *words):
     """The number of a call's refusal, 0 if it answers."""
     try:
@@ -105,13 +111,14 @@ def settled(g, dice, visit, *tables):
 
 
 def random_grammar(dice):
-    """A well-formed grammar of one to three rules besides the start, bodies of at most two symbols, costs 0 to 3."""
+    """A well-formed grammar of one to three rules besides the start, bodies of at most two symbols, costs 0 to 3. The
+    start owns one production or more."""
     R, T = dice.randint(2, 4), dice.randint(2, 3)
-    owners = list(range(R)) + [dice.randrange(1, R) for _ in range(dice.randint(0, 4))]
+    owners = list(range(R)) + [dice.randrange(R) for _ in range(dice.randint(0, 4))]
     dice.shuffle(owners)
     symbols = [*range(T - 1), *range(RULE + 1, RULE + R)]
     bodies = [dice.choices(symbols, k=dice.randint(0, 2)) for _ in owners]
-    bodies[owners.index(0)] = [RULE + dice.randrange(1, R)]
+    bodies = [body if owner else [RULE + dice.randrange(1, R)] for owner, body in zip(owners, bodies)]
     starts = [sum(map(len, bodies[:p])) for p in range(len(bodies) + 1)]
     return Grammar(R, owners, starts, sum(bodies, []), [dice.randint(0, 3) for _ in range(T)])
 
@@ -162,7 +169,9 @@ class Plain(unittest.TestCase):
             4: [g._replace(owners=[1, 1, 1, 3, 3, 0])],
             5: [g._replace(symbols=[3] + g.symbols[1:]), g._replace(symbols=[RULE + 4] + g.symbols[1:])],
             6: [g._replace(owners=[1, 2, 2, 3, 0, 0]), g._replace(symbols=g.symbols[:-1] + [0]),
-                g._replace(symbols=[RULE] + g.symbols[1:]), g._replace(owners=[0, 2, 2, 3, 3, 1])],
+                g._replace(symbols=[RULE] + g.symbols[1:]), g._replace(owners=[0, 2, 2, 3, 3, 1]),
+                *(exported(g, body) for body in ([], [0], [RULE], [RULE + 1] * 2, [RULE + 1, 0]))],
+            0: [exported(g, [RULE + 3]), exported(g, [RULE + 1]), exported(exported(g, [RULE + 2]), [RULE + 3])],
         }
         for number, grammars in wrong.items():
             for k, other in enumerate(grammars):

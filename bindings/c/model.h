@@ -1,6 +1,7 @@
-/* Document 01 once more in C, with the file writer and the versions of document 02, plain and slow, to compare the
- * library with. It is written from those texts, with the readings of their open points in docs/DECISIONS.md, and from
- * no crate. A call names an exported function and holds what it is lent; `model` makes the call on those lists. */
+/* Document 01 once more in C, with the file writer, the versions and the several exports of document 02, plain and
+ * slow, to compare the library with. It is written from those texts, with the readings of their open points in
+ * docs/DECISIONS.md, and from no crate. A call names an exported function and holds what it is lent; `model` makes the
+ * call on those lists. */
 #include <stddef.h>
 #include <stdint.h>
 #include <string.h>
@@ -77,7 +78,7 @@ static int in_limits(size_t rules, size_t tokens, size_t prods, size_t symbols) 
 
 /* The lowest refusal due of 1 to 6, or 0. */
 static uint32_t check_of(const grammar *g) {
-    size_t of_start = 0, p, i, r;
+    size_t p, i, r;
     if (!in_limits(g->rules, g->tokens, g->prods, g->symbols_len)) return 1;
     if (g->starts_len != g->prods + 1 || g->starts[0] != 0 || g->starts[g->prods] != g->symbols_len) return 2;
     for (p = 0; p < g->prods; p++)
@@ -94,11 +95,7 @@ static uint32_t check_of(const grammar *g) {
         if (s < RULE ? s + 1u >= g->tokens : s - RULE >= g->rules) return 5;
     }
     for (p = 0; p < g->prods; p++)
-        if (g->owners[p] == 0) {
-            of_start++;
-            if (g->starts[p + 1] - g->starts[p] != 1 || g->symbols[g->starts[p]] < RULE) return 6;
-        }
-    if (of_start != 1) return 6;
+        if (g->owners[p] == 0 && (g->starts[p + 1] - g->starts[p] != 1 || g->symbols[g->starts[p]] < RULE)) return 6;
     for (i = 0; i < g->symbols_len; i++)
         if (g->symbols[i] == RULE) return 6;
     return 0;

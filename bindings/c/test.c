@@ -457,6 +457,56 @@ static void g2_to_g6(void) {
     expect("G6 sentence", output[0], 1);
 }
 
+/* Two exports: start: Daily; start: Weekly; Daily: day Num Unit comma; Weekly: week Num; Num: digits; Unit: unit;
+ * Unit: nothing. The costs of the tokens are 3 2 1 1 1, and eof's is 1. */
+static void begin_exports(void) {
+    begin(5, 6, 1);
+    costs[0] = 3, costs[1] = 2;
+    PROD(0, R(1));
+    PROD(1, 0, R(3), R(4), 4);
+    PROD(2, 1, R(3));
+    PROD(3, 2);
+    PROD(4, 3);
+    prod(4, NULL, 0);
+    PROD(0, R(2));
+}
+
+static void exports(void) {
+    static const uint32_t first[] = {3, 1, 2, 4, 8}, cost[] = {3, 5, 3, 1, 0}, length[] = {2, 3, 2, 1, 0};
+    static const uint32_t follow[2][5] = {{32, 32, 32, 40, 16}, {32, 32, 32, 56, 16}};
+    begin_exports();
+    call c = make(CHECK);
+    expect("exports: check", run(&c).refusal, 0);
+    for (uint16_t r = 0; r < 5; r++) {
+        first_is(r, first[r]);
+        expect("exports: EMPTY", rule_row(1), 16);
+        follow_is(1, r, follow[0][r]);
+        follow_is(2, r, follow[1][r]);
+        cost_is(r, 0, cost[r]);
+        sentence_is(r, 100, 0, length[r]);
+        path_is(0, r, r > 0);
+        path_is(1, r, r > 2);
+        path_is(2, r, r == 3);
+    }
+    fill(PRODUCTIVE_FILL, 0);
+    expect("exports: PRODUCTIVE", rule_row(0), 31);
+    sentence_is(0, 2, 0, 2);
+    expect("exports: sentence", output[0] * 10 + output[1], 12);
+    sentence_is(0, 1, 15, 0);
+    /* the same rule twice */
+    symbols[9] = R(1);
+    c = make(CHECK);
+    expect("the same export twice", run(&c).refusal, 0);
+    cost_is(0, 0, 5);
+    /* all productions but one are rule 0's */
+    begin(2, 2, 1);
+    for (int p = 0; p < 4095; p++) PROD(0, R(1));
+    PROD(1, 0);
+    first_is(0, 1);
+    follow_is(2, 1, 2);
+    sentence_is(0, 1, 0, 1);
+}
+
 /* Doubling rules: lengths 65535 and 65536, and sixty that come to nothing. */
 static void lengths(void) {
     begin(19, 2, 0);
@@ -516,6 +566,14 @@ static void bad_grammars(void) {
     begin_g1(), owners[2] = 0, all_refuse(6);
     begin_g1(), starts[5] = 7, all_refuse(6);
     begin_g1(), starts[4] = starts[5] = 5, all_refuse(6);
+    begin_g1(), prod(0, NULL, 0), all_refuse(6);
+    begin_g1(), PROD(0, R(1), R(2)), all_refuse(6);
+    begin_g1(), PROD(0, R(1), 0), all_refuse(6);
+    begin_g1(), PROD(0, 0), all_refuse(6);
+    begin_g1(), PROD(0, R(0)), all_refuse(6);
+    begin_g1(), PROD(0, R(1)), symbols[6] = 0, all_refuse(6);
+    begin_g1(), PROD(0, 3), all_refuse(5);
+    begin_g1(), PROD(0, R(4)), all_refuse(5);
 }
 
 /* Every list of every call empty, too long by one, and far too long, also by 65536: no length is cut to 16 bits. */
@@ -748,6 +806,9 @@ static void writer(void) {
     for (size_t room = 0; room < 1100; room++) write_is(room, room < 512 ? 24 : 0, room < 512 ? 0 : 512);
     expect("G1's check", pair(bytes + 510), 459);
     reads_back(1);
+    begin_exports(), write_is(512, 0, 512);
+    expect("two exports' check", pair(bytes + 510), 763);
+    reads_back(1);
     /* 1 to 6 come before 24 */
     static const size_t some[] = {0, 511, 600};
     for (int i = 0; i < 3; i++) {
@@ -808,8 +869,8 @@ static void writer_versions(void) {
     reads_back(2);
 }
 
-/* A well-formed grammar, small or with rows of several words. In a layered one a rule holds only the next
- * three rules, so that sentences grow long and dear. */
+/* A well-formed grammar, small or with rows of several words; in some rule 0 owns several productions. In a layered one
+ * a rule holds only the next three rules, so that sentences grow long and dear. */
 static void random_grammar(void) {
     uint16_t rules = (uint16_t)(2 + below(below(4) ? 7 : 69));
     size_t tokens = 1 + below(below(4) ? 6 : 70), extra = below(rules + 4);
@@ -817,7 +878,7 @@ static void random_grammar(void) {
     begin(rules, tokens, 0);
     for (size_t i = 0; i < tokens; i++) costs[i] = (uint8_t)(below(3) ? below(4) : below(256));
     for (size_t p = 0; p < rules + extra; p++) {
-        uint16_t owner = (uint16_t)(p < rules ? (p + 1) % rules : 1 + below(rules - 1u));
+        uint16_t owner = (uint16_t)(p < rules ? (p + 1) % rules : below(8) ? 1 + below(rules - 1u) : 0);
         uint16_t from = layered ? (uint16_t)(owner + 1) : 1;
         size_t len = owner == 0 ? 1 : layered ? 1 + below(4) : below(5);
         for (size_t i = 0; i < len; i++) {
@@ -895,6 +956,7 @@ int main(void) {
     expect("fences", (uint64_t)build_fences(), 1);
     g1();
     g2_to_g6();
+    exports();
     lengths();
     bad_grammars();
     list_lengths();

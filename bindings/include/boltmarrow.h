@@ -3,7 +3,7 @@
  * A grammar is R rules (`rules`); owners (P numbers); starts (P+1 numbers); symbols (N numbers);
  * token costs (T bytes). P, N and T are the lists' lengths. Production p is symbols starts[p] up
  * to, without, starts[p+1]. A symbol below 32768 is a token, otherwise rule (value - 32768).
- * Token T-1 is eof, rule 0 the start.
+ * Token T-1 is eof, rule 0 the start: it has a production for each export.
  *
  * Every call takes arbitrary lists and numbers, checks them itself, ends, and answers or refuses.
  * The lists of one call must not overlap where the call writes; a list of length 0 may have any
@@ -36,8 +36,7 @@
  *   3  an owner is R or more
  *   4  a rule owns no production
  *   5  a token symbol is T-1 or more, or a rule symbol's rule is R or more
- *   6  rule 0 owns other than one production, that production is not one rule symbol, or some
- *      production holds rule 0
+ *   6  some production of rule 0 is not exactly one rule symbol, or some production holds rule 0
  *   7  a lent table is not of its exact length
  *   8  FOLLOW mode other than 1 or 2
  *   9, 10, 11  rule number R or more, token number T or more, production number P or more

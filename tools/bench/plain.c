@@ -45,18 +45,13 @@ static int symbol_out(const struct plain_grammar *g)
 
 static int start_wrong(const struct plain_grammar *g)
 {
-    size_t count = 0;
-    for (size_t p = 0; p < g->prods; p++) {
-        if (g->owners[p] != 0)
-            continue;
-        count++;
-        if (g->starts[p + 1] - g->starts[p] != 1 || g->symbols[g->starts[p]] < RULE)
+    for (size_t p = 0; p < g->prods; p++)
+        if (g->owners[p] == 0 && (g->starts[p + 1] - g->starts[p] != 1 || g->symbols[g->starts[p]] < RULE))
             return 1;
-    }
     for (size_t k = 0; k < g->symbol_count; k++)
         if (g->symbols[k] == RULE)
             return 1;
-    return count != 1;
+    return 0;
 }
 
 unsigned plain_check(const struct plain_grammar *g)

@@ -1,5 +1,5 @@
-//! Asks the Rust crate about flat grammars. Standard input has one well-formed grammar a line, all numbers in this
-//! order, with one space between:
+//! Asks the Rust crate about flat grammars. Standard input has one well-formed grammar a line, whose rule 0 owns one
+//! production, since the crate builds no others; all numbers in this order, with one space between:
 //!
 //!     R T P N, P owners, P+1 starts, N symbols, T token costs
 //!

@@ -58,7 +58,21 @@ impl RulesProds {
 impl Grammar {
     /// The grammar of these tables. Production p belongs to rule `owners[p]` and is `symbols` from `starts[p]` up to,
     /// without, `starts[p + 1]`; a symbol below 32768 is a token, otherwise rule (value - 32768). The last token is
-    /// eof, rule 0 the start. `costs` has a byte for each token.
+    /// eof, rule 0 the start, which has a production for each export. `costs` has a byte for each token.
+    ///
+    /// ```
+    /// use boltmarrow::{Grammar, RIdx, Refusal, TIdx};
+    ///
+    /// // Two exports in one grammar: rule 0 is rule 1, three tokens 0, or rule 2, one token 1. Token 2 is eof.
+    /// let (owners, starts) = (vec![0, 0, 1, 2], vec![0, 1, 2, 5, 6]);
+    /// let grm = Grammar::new(3, owners, starts, vec![32769, 32770, 0, 0, 0, 1], vec![1, 2, 0])?;
+    /// let start = grm.start_rule_idx();
+    /// assert_eq!(grm.firsts().firsts(start)?.collect::<Vec<_>>(), [TIdx(0), TIdx(1)]);
+    /// // The cheaper export's sentence: three tokens of cost 1, or one of cost 2.
+    /// assert_eq!(grm.sentence_generator().min_sentence(start)?, [TIdx(1)]);
+    /// assert_eq!(grm.sentence_generator().min_sentence(RIdx(1))?, [TIdx(0); 3]);
+    /// # Ok::<(), Refusal>(())
+    /// ```
     ///
     /// # Errors
     ///

@@ -15,7 +15,7 @@ pub enum Refusal {
     NoProduction = 4,
     /// A symbol is no token below eof and no rule.
     Symbol = 5,
-    /// Rule 0 owns other than one production of one rule symbol, or stands in a production.
+    /// Some production of rule 0 is not exactly one rule symbol, or some production holds rule 0.
     Start = 6,
     /// A lent table is not of its exact length. This crate lends no such table.
     TableLength = 7,
@@ -103,7 +103,7 @@ impl Refusal {
             Owner => "a production belongs to a rule that is not there",
             NoProduction => "a rule has no production",
             Symbol => "a production holds a symbol that is neither a token before eof nor a rule",
-            Start => "the start, rule 0, must have one production, of a single rule, and stand in no production",
+            Start => "each production of rule 0, the start, must be exactly one rule, and no production may hold it",
             TableLength => "a table is not as long as this grammar needs it",
             Mode => "FOLLOW has the modes 1 (the crate's) and 2 (corrected) only",
             RuleNumber => "the grammar has no rule with this number",

@@ -132,11 +132,11 @@ impl Random {
         }
     }
 
-    /// A grammar of so many rules and tokens, its productions in any order.
+    /// A grammar of so many rules and tokens, its productions in any order; rule 0 owns one or more.
     fn grammar(&mut self, rules: u16, tokens: u16) -> Grammar {
         let more = self.below(rules + 20);
         let mut owners: Vec<u16> = (0..rules).collect();
-        owners.extend((0..more).map(|_| 1 + self.below(rules - 1)));
+        owners.extend((0..more).map(|_| if self.below(8) == 0 { 0 } else { 1 + self.below(rules - 1) }));
         for last in (1..owners.len()).rev() {
             owners.swap(last, usize::from(self.below(last as u16 + 1)));
         }

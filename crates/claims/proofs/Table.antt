@@ -1,15 +1,20 @@
--- Document 01's starred lines, proved together.
+-- Document 01's starred lines, and those of the change requests, proved together.
 use mathlib.Core.Path.{refl}
-use Rattle.theory.specs.Below.{some, count}
-use Rattle.grammar.specs.Refusals.{sizesOut, falls, startsWrong, ownerOut, owns, ruleUnowned, symbolOut, symbolsOut, startCount, oneRule, startLong, startHeld, startWrong, unlessDue}
-use Rattle.claims.specs.Claims.{AllMean, starred, repeats}
+use Rattle.theory.specs.Below.{some}
+use Rattle.grammar.specs.Refusals.{sizesOut, falls, startsWrong, ownerOut, owns, ruleUnowned, symbolOut, symbolsOut, oneRule, startLong, startHeld, startWrong, unlessDue}
+use Rattle.claims.specs.Claims.{AllMean, starred, repeats, requested}
 use Rattle.claims.proofs.Decided.{all-decided}
 
 pub table : AllMean starred
-unfolding some count sizesOut falls startsWrong ownerOut owns ruleUnowned symbolOut symbolsOut startCount oneRule startLong startHeld startWrong unlessDue
+unfolding some sizesOut falls startsWrong ownerOut owns ruleUnowned symbolOut symbolsOut oneRule startLong startHeld startWrong unlessDue
 table = all-decided starred refl
 
 -- and what it says of the Rust on G1
 pub again : AllMean repeats
-unfolding some count sizesOut falls startsWrong ownerOut owns ruleUnowned symbolOut symbolsOut startCount oneRule startLong startHeld startWrong unlessDue
+unfolding some sizesOut falls startsWrong ownerOut owns ruleUnowned symbolOut symbolsOut oneRule startLong startHeld startWrong unlessDue
 again = all-decided repeats refl
+
+-- and of the change requests
+pub asked : AllMean requested
+unfolding some sizesOut falls startsWrong ownerOut owns ruleUnowned symbolOut symbolsOut oneRule startLong startHeld startWrong unlessDue
+asked = all-decided requested refl

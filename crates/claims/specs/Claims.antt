@@ -16,7 +16,7 @@ use Rattle.source.specs.Costs.{start, Returns}
 use Rattle.source.specs.Sentence as Sentence
 use Rattle.grammar.specs.Flat.{Flat, denoted, price}
 use Rattle.grammar.specs.Well.{WellFormed}
-use Rattle.claims.specs.Grammars.{g1, g2, g3, g4, g6}
+use Rattle.claims.specs.Grammars.{g1, g2, g3, g4, g6, exports}
 
 -- a set is given by its tokens; `by` names the rules between, as a hint to the test
 pub data Claim : Type 0 where
@@ -105,3 +105,17 @@ starred =
 -- what it says of G1's start beside them: the Rust gives 0 0
 abbrev pub repeats : List Claim
 repeats = sourceGives g1 0 1 (0 ∷ 0 ∷ []) ∷ []
+
+-- of the change requests: L7, both exports are followed by eof, and the start has the cheaper one's sentence
+abbrev pub requested : List Claim
+requested =
+    firstIs exports 0 (0 ∷ [])
+    ∷ followIs exports crate 1 (2 ∷ [])
+    ∷ followIs exports crate 2 (2 ∷ [])
+    ∷ followIs exports corrected 1 (2 ∷ [])
+    ∷ followIs exports corrected 2 (2 ∷ [])
+    ∷ costIs exports 0 1
+    ∷ costIs exports 2 2
+    ∷ sentenceIs exports 0 (0 ∷ [])
+    ∷ path exports 0 [] 2
+    ∷ []

@@ -21,3 +21,7 @@ g4 = flat 2 (0 ∷ 1 ∷ []) (0 ∷ 1 ∷ 3 ∷ []) (32769 ∷ 32769 ∷ 0 ∷ [
 -- A: b A; A: a, costs 1. Tokens 0 b, 1 a
 abbrev pub g6 : Flat
 g6 = flat 2 (0 ∷ 1 ∷ 1 ∷ []) (0 ∷ 1 ∷ 3 ∷ 4 ∷ []) (32769 ∷ 0 ∷ 32769 ∷ 1 ∷ []) (1 ∷ 1 ∷ 1 ∷ [])
+
+-- request L7's, two exports D and W: D: a; W: a b. Rules 1 D, 2 W; tokens 0 a, 1 b
+abbrev pub exports : Flat
+exports = flat 3 (0 ∷ 1 ∷ 2 ∷ 0 ∷ []) (0 ∷ 1 ∷ 2 ∷ 4 ∷ 5 ∷ []) (32769 ∷ 0 ∷ 0 ∷ 1 ∷ 32770 ∷ []) (1 ∷ 1 ∷ 1 ∷ [])

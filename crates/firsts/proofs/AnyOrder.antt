@@ -12,7 +12,7 @@ use Rattle.theory.specs.Visits.{Marks, firstVisit, firstCleared}
 use Rattle.theory.proofs.First.{first-any-order, first-one}
 use Rattle.grammar.specs.Flat.{Flat, denoted}
 use Rattle.grammar.specs.Outcome.{answers}
-use Rattle.grammar.specs.Well.{WellFormed}
+use Rattle.grammar.specs.Well.{WellFormed, Built}
 use Rattle.grammar.proofs.Denoted.{proper}
 use Rattle.rows.proofs.Tables.{cleared-mark}
 use Rattle.source.specs.Firsts.{Returns}
@@ -75,12 +75,14 @@ module _ (g : Flat) (w : WellFormed g) where
       → AtRest firstVisits (ask g) (length (g .owners)) l
   rounds-rest = rounds-still first-steady (first-any-order (denoted g) (proper g w))
 
+-- on every grammar that the crate can build
+module _ (g : Flat) (b : Built g) where
   -- the source's `YaccFirsts::new` returns, and its FIRST and epsilon bits are those that fill leaves
   pub source-returns : (t : Marks) × Returns (denoted g) firstCleared t
-  source-returns = firsts-returns (denoted g) (proper g w)
+  source-returns = firsts-returns (denoted g) (proper g (b .well))
 
   pub source-equal : (l : Lent) → Defined g l → {t : Marks} → Returns (denoted g) firstCleared t → marksOf (g .rules) (length (g .costs)) l ≡ t
-  source-equal l d r = first-one (denoted g) _ _ (d .exact) (firsts-exact (denoted g) (proper g w) r)
+  source-equal l d r = first-one (denoted g) _ _ (d .exact) (firsts-exact (denoted g) (proper g (b .well)) r)
 
   -- the same of a call of fill, whatever was lent to it
   pub fill-source : (first empty f e : List ℕ) (q : Filled) → fillDue g (lent first empty) ≡ answers tt → Fill g first empty q f e → {t : Marks} → Returns (denoted g) firstCleared t → marksOf (g .rules) (length (g .costs)) (lent f e) ≡ t

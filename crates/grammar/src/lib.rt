@@ -7,7 +7,7 @@ ghost use Prim.Native.Nat.{ℕ, _+_, _≤_, _<_};
 ghost use lib.Dec.{leb, ltb};
 ghost use lib.ListN.{length, getD};
 ghost use Rattle.grammar.specs.Flat.{flat, at};
-ghost use Rattle.grammar.specs.Refusals.{falls, startsWrong, ownerOut, owns, ruleUnowned, symbolsOut, startCount, oneRule, startLong, startHeld, startWrong};
+ghost use Rattle.grammar.specs.Refusals.{falls, startsWrong, ownerOut, owns, ruleUnowned, symbolsOut, oneRule, startLong, startHeld, startWrong};
 ghost use Rattle.grammar.specs.Well.{Laid};
 ghost use Rattle.grammar.specs.Production.{checkedIs, lengthIs, checkOf, productionOf, lengthOf, Front, Produces};
 ghost use denote.Ref.{ptr};
@@ -131,20 +131,6 @@ fn symbols_out(rules: u16, tokens: usize, symbols: &[u16]) -> bool
     out
 }
 
-fn start_count(owners: &[u16]) -> usize
-    ensures { λ r. ⌜ r ≡ startCount (now (owners .entry)) ⌝ }
-{
-    let mut n: usize = 0;
-    let mut p: usize = 0;
-    while p < owners.len() {
-        if owners[p] == 0 {
-            n += 1;
-        }
-        p += 1;
-    }
-    n
-}
-
 // Whether production p is one rule symbol.
 fn one_rule(starts: &[u16], symbols: &[u16], p: usize) -> bool
     requires { ⌜ (p + 1 < length (now starts)) × (at (now starts) (p + 1) ≤ length (now symbols)) ⌝ }
@@ -189,9 +175,6 @@ fn start_wrong(owners: &[u16], starts: &[u16], symbols: &[u16]) -> bool
     requires { ⌜ Laid (length (now owners)) (length (now symbols)) (now starts) ⌝ }
     ensures { λ r. ⌜ r ≡ startWrong (now (owners .entry)) (now (starts .entry)) (now (symbols .entry)) ⌝ }
 {
-    if start_count(owners) != 1 {
-        return true;
-    }
     if start_long(owners, starts, symbols) {
         return true;
     }

@@ -1,4 +1,4 @@
--- Demand 2 for sentences: where the source returns, the length fits and no used production has the place that document 01 names, its result is ours.
+-- Demand 2 for sentences, on every grammar that the crate can build: where the source returns, the length fits and no used production has the place that document 01 names, its result is ours.
 use mathlib.Core.List.{List, [], _∷_, _++_, List·Memᴰ, List·Memᴰ·head, List·Memᴰ·cases-cons, List·Memᴰ·not-nil, Memᴰ·append-right}
 use mathlib.Core.Bool.{false, false≢true}
 use mathlib.Core.Logic.{inl, inr}
@@ -6,7 +6,7 @@ use mathlib.Core.Path.{_≡_, refl, sym, ap, _∙_, subst}
 use Prim.Native.Nat.{ℕ, zero, suc, _≤_, _<_}
 use native.Mathlib.Omega.{arith}
 use lib.ListN.{length}
-use Rattle.theory.specs.Below.{some, count}
+use Rattle.theory.specs.Below.{some}
 use Rattle.theory.specs.Grammar.{tok, rul, Form}
 use Rattle.theory.specs.Sentences.{Choice}
 use Rattle.theory.specs.Visits.{Costs}
@@ -14,10 +14,10 @@ use Rattle.source.specs.Costs.{start, Returns as CostsReturn}
 use Rattle.source.specs.Sentence.{Returns, NoPlace, Uses, first, inner, Place}
 use Rattle.source.proofs.Running.{stuck-never, sentence-return}
 use Rattle.source.proofs.Sentence.{sentence-same}
-use Rattle.grammar.specs.Flat.{Flat, flat, denoted, price}
+use Rattle.grammar.specs.Flat.{Flat, flat, at, denoted, price}
 use Rattle.grammar.specs.Outcome.{Outcome, answers}
-use Rattle.grammar.specs.Refusals.{sizesOut, falls, startsWrong, ownerOut, owns, ruleUnowned, symbolOut, symbolsOut, startCount, oneRule, startLong, startHeld, startWrong, unlessDue}
-use Rattle.grammar.specs.Well.{WellFormed}
+use Rattle.grammar.specs.Refusals.{sizesOut, falls, startsWrong, ownerOut, owns, ruleUnowned, symbolOut, symbolsOut, oneRule, startLong, startHeld, startWrong, unlessDue}
+use Rattle.grammar.specs.Well.{Built}
 use Rattle.grammar.proofs.Denoted.{proper}
 use Rattle.grammar.proofs.Well.{well}
 use Rattle.costs.specs.Lent.{costsOf}
@@ -25,13 +25,13 @@ use Rattle.sentences.specs.declared.Length.{Length as Answer}
 use Rattle.sentences.specs.Query.{lengthIs, Lends, lends, sentenceDue, Writes, Sentenced, MinSentence}
 
 -- b is the source's list of costs, if it asks for one; v is what its `min_sentence` returns
-pub source-equal : (g : Flat) → WellFormed g → (r : ℕ) (out : List ℕ) {s : Outcome ℕ} {a : Lends} → Sentenced g r out s a
+pub source-equal : (g : Flat) → Built g → (r : ℕ) (out : List ℕ) {s : Outcome ℕ} {a : Lends} → Sentenced g r out s a
     → (b : Costs) (v : List ℕ) → Returns (denoted g) (price g) b r v → NoPlace (denoted g) (price g) (costsOf (a .cost)) r
     → length v ≤ 65535 → length v ≤ length out → Writes v out s (a .out)
-source-equal g w r out {a = a} x b v y h short room = x .says .is v (sentence-same (denoted g) (price g) (proper g w) b (costsOf (a .cost)) (x .cost .exact) y h) short room
+source-equal g w r out {a = a} x b v y h short room = x .says .is v (sentence-same (denoted g) (price g) (proper g (w .well)) b (costsOf (a .cost)) (x .cost .exact) y h) short room
 
 -- the same of a call, whatever was lent to it
-pub call-source : (g : Flat) → WellFormed g → (r : ℕ) (productive cost lengths out : List ℕ) → sentenceDue g r (lends productive cost lengths out) ≡ answers tt
+pub call-source : (g : Flat) → Built g → (r : ℕ) (productive cost lengths out : List ℕ) → sentenceDue g r (lends productive cost lengths out) ≡ answers tt
     → (q : Answer) (productive′ cost′ lengths′ out′ : List ℕ) → MinSentence g r productive cost lengths out q productive′ cost′ lengths′ out′
     → (b : Costs) (v : List ℕ) → Returns (denoted g) (price g) b r v → NoPlace (denoted g) (price g) (costsOf cost′) r
     → length v ≤ 65535 → length v ≤ length out → Writes v out (lengthIs q) out′
@@ -41,9 +41,15 @@ call-source g w r productive cost lengths out due q productive′ cost′ length
 abbrev pub lone : Flat
 lone = flat 3 (0 ∷ 1 ∷ 2 ∷ []) (0 ∷ 1 ∷ 2 ∷ 3 ∷ []) (32769 ∷ 0 ∷ 32770 ∷ []) (1 ∷ 1 ∷ [])
 
-lone-well : WellFormed lone
-unfolding some count sizesOut falls startsWrong ownerOut owns ruleUnowned symbolOut symbolsOut startCount oneRule startLong startHeld startWrong unlessDue
-lone-well = well lone refl
+lone-built : Built lone
+unfolding some sizesOut falls startsWrong ownerOut owns ruleUnowned symbolOut symbolsOut oneRule startLong startHeld startWrong unlessDue
+lone-built = record { well = well lone refl; only = λ p q lp lq ep eq. first-owned p lp ep ∙ sym (first-owned q lq eq) }
+  where
+    first-owned : (p : ℕ) → p < 3 → at (0 ∷ 1 ∷ 2 ∷ []) p ≡ 0 → p ≡ 0
+    first-owned zero l e = refl
+    first-owned (suc zero) l e = absurd (omega (arith, e))
+    first-owned (suc (suc zero)) l e = absurd (omega (arith, e))
+    first-owned (suc (suc (suc p))) l e = absurd (omega (arith, l))
 
 -- its costs never return
 pub lone-never : {c : Costs} → CostsReturn (denoted lone) (price lone) start c → ⊥
@@ -72,4 +78,4 @@ lone-place c p (inner {q = q} {s = s} d m u) x = bare s (subst (λ z. List·Mem�
 pub lone-writes : (productive cost lengths out : List ℕ) → sentenceDue lone 1 (lends productive cost lengths out) ≡ answers tt → 1 ≤ length out
     → (q : Answer) (productive′ cost′ lengths′ out′ : List ℕ) → MinSentence lone 1 productive cost lengths out q productive′ cost′ lengths′ out′ → Writes (0 ∷ []) out (lengthIs q) out′
 lone-writes productive cost lengths out due room q productive′ cost′ lengths′ out′ m =
-    call-source lone lone-well 1 productive cost lengths out due q productive′ cost′ lengths′ out′ m (λ r. 0) (0 ∷ []) (lone-returns (λ r. 0)) (lone-place (costsOf cost′)) (omega arith) room
+    call-source lone lone-built 1 productive cost lengths out due q productive′ cost′ lengths′ out′ m (λ r. 0) (0 ∷ []) (lone-returns (λ r. 0)) (lone-place (costsOf cost′)) (omega arith) room

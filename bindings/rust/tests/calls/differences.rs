@@ -1,5 +1,6 @@
 //! Inputs of docs/DIFFERENCES.md besides document 01's grammars: what is answered where the Rust loses marks, writes
-//! tokens again, panics or never returns. In each the start is rule 1.
+//! tokens again, panics, never returns or builds no such grammar. In each the start is rule 1, in the last but one rule 2
+//! too.
 use boltmarrow::{Mode, RIdx, Refusal, TIdx};
 
 use crate::grammars::{built, well, RULE};
@@ -61,6 +62,15 @@ fn rules_with_empty_sentences_take_no_time() {
     // A: B 40 times; B: nothing
     let grm = well(3, &[(0, &[A]), (1, &[B; 40]), (2, &[])], &[1]);
     assert_eq!((cost(&grm, 1), sentence(&grm, 1)), (Ok(0), Ok(vec![])));
+}
+
+#[test]
+fn several_start_productions() {
+    // start: A; start: B; A: a; B: b
+    let grm = well(3, &[(0, &[A]), (0, &[B]), (1, &[0]), (2, &[1])], &[2, 1, 1]);
+    assert_eq!(grm.rule_to_prods(RIdx(0)).map(<[_]>::len), Ok(2));
+    assert_eq!(grm.firsts().firsts(RIdx(0)).unwrap().collect::<Vec<_>>(), [TIdx(0), TIdx(1)]);
+    assert_eq!((cost(&grm, 0), sentence(&grm, 0)), (Ok(1), Ok(vec![1])));
 }
 
 #[test]

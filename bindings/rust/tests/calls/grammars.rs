@@ -1,4 +1,5 @@
-//! Document 01's grammars. G2 to G6 have the start's production first and eof last, as docs/DECISIONS.md has them.
+//! Document 01's grammars, and one with two exports. G2 to G6 have the start's production first and eof last, as
+//! docs/DECISIONS.md has them.
 use boltmarrow::{Grammar, Refusal};
 
 /// In the symbol list rule r is `RULE + r`.
@@ -79,6 +80,21 @@ pub fn comma() -> Grammar {
         (4, &[]),
     ];
     well(5, &prods, &[1; 6])
+}
+
+/// Two exports: start: Daily; start: Weekly; Daily: day Num Unit comma; Weekly: week Num; Num: digits; Unit: unit;
+/// Unit: nothing. Rules 1 Daily, 2 Weekly, 3 Num, 4 Unit; tokens 0 day, 1 week, 2 digits, 3 unit, 4 comma.
+pub fn exports() -> Grammar {
+    let prods: [(u16, &[u16]); 7] = [
+        (0, &[RULE + 1]),
+        (1, &[0, RULE + 3, RULE + 4, 4]),
+        (2, &[1, RULE + 3]),
+        (3, &[2]),
+        (4, &[3]),
+        (4, &[]),
+        (0, &[RULE + 2]),
+    ];
+    well(5, &prods, &[3, 2, 1, 1, 1, 1])
 }
 
 /// The start is rule 1; rule r is rule r+1 twice, as far as rule `last`, which is `body`. Tokens 0, and eof.

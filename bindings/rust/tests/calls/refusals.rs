@@ -65,6 +65,34 @@ fn two_to_six_are_for_the_tables() {
     assert_eq!(refused(|g1| g1.3[6] = 0), Some(Refusal::Start));
 }
 
+/// Why G1 with one more production of rule 0, behind the others, is refused.
+fn exported(body: &[u16]) -> Option<Refusal> {
+    refused(|g1| {
+        g1.1.push(0);
+        g1.2.push(7 + body.len() as u16);
+        g1.3.extend(body);
+    })
+}
+
+#[test]
+fn each_production_of_the_start_is_one_rule() {
+    for body in [RULE + 1, RULE + 2, RULE + 3] {
+        assert_eq!(exported(&[body]), None, "{body}");
+    }
+    for body in [&[][..], &[0], &[RULE], &[RULE + 1, RULE + 2], &[RULE + 1, 0]] {
+        assert_eq!(exported(body), Some(Refusal::Start), "{body:?}");
+    }
+    // eof, and a rule that is not there
+    assert_eq!(exported(&[3]), Some(Refusal::Symbol));
+    assert_eq!(exported(&[RULE + 4]), Some(Refusal::Symbol));
+    // rule 0 owns one before its right one: minus, nothing, comma digits
+    for prod in [1, 2, 3] {
+        assert_eq!(refused(|g1| g1.1[prod] = 0), Some(Refusal::Start), "production {prod}");
+    }
+    let words = "each production of rule 0, the start, must be exactly one rule, and no production may hold it";
+    assert_eq!(Refusal::Start.to_string(), format!("{words} (refusal 6)"));
+}
+
 #[test]
 fn the_lowest_number_due_is_given() {
     assert_eq!(refused(|g1| (g1.3[0], g1.1[0]) = (RULE, 4)), Some(Refusal::Owner));

@@ -1,7 +1,7 @@
 //! Costs of one rule and cheapest sentences.
 use boltmarrow::{Grammar, RIdx, Refusal, TIdx};
 
-use crate::grammars::{doubled, g1, g3, g4, g5, g5_either, g6};
+use crate::grammars::{doubled, exports, g1, g3, g4, g5, g5_either, g6, well, RULE};
 
 pub fn cost(grm: &Grammar, rule: u16) -> Result<u16, Refusal> {
     grm.sentence_generator().min_sentence_cost(RIdx(rule))
@@ -35,6 +35,19 @@ fn sentences_of_a_rule() {
     assert_eq!(sentence(&g5_either(), 1), Ok(vec![1]));
     assert_eq!(sentence(&g6(), 1), Ok(vec![1]));
     assert_eq!(sentence(&g6(), 2), Err(Refusal::RuleNumber));
+}
+
+#[test]
+fn the_start_has_the_cheapest_exports_sentence() {
+    let grm = exports();
+    assert_eq!((cost(&grm, 0), sentence(&grm, 0)), (Ok(3), Ok(vec![1, 2])));
+    assert_eq!((cost(&grm, 1), sentence(&grm, 1)), (Ok(5), Ok(vec![0, 2, 4])));
+    // start: B; start: A; A: a; B: b, equally cheap: the lower production's.
+    let equal = well(3, &[(0, &[RULE + 2]), (0, &[RULE + 1]), (1, &[0]), (2, &[1])], &[1, 1, 1]);
+    assert_eq!(sentence(&equal, 0), Ok(vec![1]));
+    // start: A; start: B; A: A a; B: b: A has no sentence.
+    let other = well(3, &[(0, &[RULE + 1]), (0, &[RULE + 2]), (1, &[RULE + 1, 0]), (2, &[1])], &[1, 1, 1]);
+    assert_eq!((sentence(&other, 0), sentence(&other, 1)), (Ok(vec![1]), Err(Refusal::NoSentence)));
 }
 
 #[test]

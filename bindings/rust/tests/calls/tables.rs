@@ -1,7 +1,7 @@
 //! FIRST, EMPTY, FOLLOW, paths, PRODUCTIVE and COST.
 use boltmarrow::{Grammar, Mode, PIdx, RIdx, SIdx, Symbol, TIdx};
 
-use crate::grammars::{comma, g1, g2, g3, g4, g5, g5_either, g6, well, RULE};
+use crate::grammars::{comma, exports, g1, g2, g3, g4, g5, g5_either, g6, well, RULE};
 
 fn numbers(tokens: impl Iterator<Item = TIdx>) -> Vec<u16> {
     tokens.map(|tidx| tidx.as_storaget()).collect()
@@ -52,6 +52,27 @@ fn the_corrected_mode_keeps_the_field_comma() {
     assert!(grm.follows(Mode::Corrected).is_set(num, field_comma).unwrap());
     assert_eq!(follows(&grm, Mode::Crate)[2], [3]);
     assert_eq!(follows(&grm, Mode::Corrected)[2], [2, 3, 4]);
+}
+
+/// The start has what both exports have; a rule that both share has what follows it in either.
+#[test]
+fn two_exports_in_one_grammar() {
+    let grm = exports();
+    assert_eq!(firsts(&grm), [vec![0, 1], vec![0], vec![1], vec![2], vec![3]]);
+    assert_eq!(empties(&grm), [false, false, false, false, true]);
+    // Num: unit before Unit, comma past it in the corrected mode, eof at the end of Weekly.
+    assert_eq!(follows(&grm, Mode::Crate), [vec![5], vec![5], vec![5], vec![3, 5], vec![4]]);
+    assert_eq!(follows(&grm, Mode::Corrected), [vec![5], vec![5], vec![5], vec![3, 4, 5], vec![4]]);
+    // Num 1; Daily 3 + 1 + 0 + 1, Weekly 2 + 1; the start the lesser.
+    assert_eq!(costs(&grm), [3, 5, 3, 1, 0].map(Some));
+    assert!(grm.iter_rules().all(|ridx| grm.productive().is_set(ridx).unwrap()));
+    let paths = |from| [0, 1, 2, 3, 4].map(|to| grm.has_path(RIdx(from), RIdx(to)).unwrap());
+    assert_eq!(paths(0), [false, true, true, true, true]);
+    assert_eq!(paths(1), [false, false, false, true, true]);
+    assert_eq!(paths(2), [false, false, false, true, false]);
+    assert_eq!(grm.rule_to_prods(grm.start_rule_idx()).unwrap(), [PIdx(0), PIdx(6)]);
+    assert_eq!(grm.prod(PIdx(6)).unwrap().collect::<Vec<_>>(), [Symbol::Rule(RIdx(2))]);
+    assert_eq!(grm.prod_len(PIdx(6)), Ok(SIdx(1)));
 }
 
 #[test]

@@ -1,7 +1,7 @@
 //! Single visits.
 use boltmarrow::{Grammar, Mode, PIdx, RIdx, Refusal, TIdx};
 
-use crate::grammars::{comma, g1, g2, g6};
+use crate::grammars::{comma, exports, g1, g2, g6};
 
 /// Rounds over the productions, from the last to the first, until one changes nothing.
 fn rounds(grm: &Grammar, mut visit: impl FnMut(PIdx) -> Result<bool, Refusal>) {
@@ -32,7 +32,7 @@ fn a_visit_makes_one_step() {
 
 #[test]
 fn first_visits_in_another_order_leave_the_fills_table() {
-    for grm in [g1(), g2(), comma()] {
+    for grm in [g1(), g2(), comma(), exports()] {
         let (mut table, filled) = (grm.first_table(), grm.firsts());
         rounds(&grm, |pidx| table.visit(pidx));
         assert_eq!(marks(&grm, |ridx| table.firsts(ridx)), marks(&grm, |ridx| filled.firsts(ridx)));
@@ -44,7 +44,7 @@ fn first_visits_in_another_order_leave_the_fills_table() {
 
 #[test]
 fn follow_visits_in_another_order_leave_the_fills_table() {
-    for grm in [g1(), g2(), comma()] {
+    for grm in [g1(), g2(), comma(), exports()] {
         for mode in [Mode::Crate, Mode::Corrected] {
             let (mut table, filled) = (grm.follow_table(mode), grm.follows(mode));
             rounds(&grm, |pidx| table.visit(pidx));
@@ -66,6 +66,17 @@ fn a_cleared_follow_holds_eof_for_the_start() {
     assert_eq!(marks(&grm, |ridx| table.follows(ridx)), visited);
     table.clear();
     assert_eq!(marks(&grm, |ridx| table.follows(ridx)), cleared);
+}
+
+#[test]
+fn each_of_the_starts_productions_makes_its_own_step() {
+    let grm = exports();
+    let (mut costs, start) = (grm.cost_table(), grm.start_rule_idx());
+    // Num, Unit, Daily, Weekly; then start: Daily and start: Weekly
+    assert_eq!([3, 5, 1, 2].map(|p| costs.visit(PIdx(p))), [Ok(true); 4]);
+    assert_eq!((costs.visit(PIdx(0)), costs.cost(start)), (Ok(true), Ok(Some(5))));
+    assert_eq!((costs.visit(PIdx(6)), costs.cost(start)), (Ok(true), Ok(Some(3))));
+    assert_eq!((costs.visit(PIdx(0)), costs.cost(start)), (Ok(false), Ok(Some(3))));
 }
 
 #[test]

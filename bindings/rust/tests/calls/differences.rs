@@ -23,6 +23,10 @@ fn follow_without_dead_rules() {
     let grm = dead();
     let z_after_a = |mode| grm.follows(mode).is_set(RIdx(2), TIdx(1));
     assert_eq!((z_after_a(Mode::Crate), z_after_a(Mode::Corrected)), (Ok(true), Ok(false)));
+    // A: nothing; U: A z
+    let grm = well(3, &[(0, &[A]), (1, &[]), (2, &[A, 0])], &[1, 1]);
+    let z_after_a = |mode| grm.follows(mode).is_set(RIdx(1), TIdx(0));
+    assert_eq!((z_after_a(Mode::Crate), z_after_a(Mode::Corrected)), (Ok(true), Ok(false)));
 }
 
 #[test]

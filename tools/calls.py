@@ -1,4 +1,4 @@
-"""The 21 calls of bindings/include/boltmarrow.h once more, in plain Python, on arbitrary lists and numbers. They are
+"""The 22 calls of bindings/include/boltmarrow.h once more, in plain Python, on arbitrary lists and numbers. They are
 written from documents 01 and 02, over the definitions and visits of plain.py: here are the tables as words, their
 lengths and the calls' own refusals. A block file is written by bin/blocks. A call changes the lists that it is lent,
 and returns its values or raises plain.Refused.
@@ -13,7 +13,8 @@ LISTS = 4096, 4097, 16384, 512  # the lengths of the lists that the file reader 
 
 
 class Call(NamedTuple):
-    takes: str  # behind the grammar: numbers by what they count; lists of words: marks, row, entries; room and bytes
+    takes: str  # behind the grammar: numbers by what they count; lists of words: marks, row, reached (a row), entries;
+    # room and bytes
     refusals: tuple  # its own; besides, each gives 1 to 6
     values: int  # the values of an answer
     make: object
@@ -178,6 +179,13 @@ def min_sentence_cost(g, rule, productive, cost):
     return [plain.sentence_cost(g, rule)]
 
 
+def reached_fill(g, reached):
+    need(g, [(reached, row_length)])
+    clear(reached)
+    put(reached, 0, plain.reached(g), g.rules)
+    return [0]
+
+
 def follow_clear(g, follow):
     need(g, [(follow, marks_length)])
     clear(follow)
@@ -185,20 +193,22 @@ def follow_clear(g, follow):
     return [0]
 
 
-def need_follow(g, follow, first, empty, **numbers):
-    need(g, [(follow, marks_length), (first, marks_length), (empty, row_length)], **numbers)
+def need_follow(g, follow, first, empty, reached, **numbers):
+    need(g, [(follow, marks_length), (first, marks_length), (empty, row_length), (reached, row_length)], **numbers)
 
 
-def follow_visit(g, mode, p, follow, first, empty):
-    need_follow(g, follow, first, empty, mode=mode, prods=[p])
+def follow_visit(g, mode, p, follow, first, empty, reached):
+    need_follow(g, follow, first, empty, reached, mode=mode, prods=[p])
     held = rows(g, follow)
-    changed = plain.visit_follow(g, mode, p, held, rows(g, first), marks(empty, g.rules))
+    read = rows(g, first), marks(empty, g.rules), marks(reached, g.rules)
+    changed = plain.visit_follow(g, mode, p, held, *read)
     put_rows(g, follow, held)
     return [int(changed)]
 
 
-def follow_fill(g, mode, follow, first, empty):
-    need_follow(g, follow, first, empty, mode=mode)
+def follow_fill(g, mode, follow, first, empty, reached):
+    need_follow(g, follow, first, empty, reached, mode=mode)
+    reached_fill(g, reached)
     first_fill(g, first, empty)
     clear(follow)
     put_rows(g, follow, plain.follows(g, mode))
@@ -254,9 +264,10 @@ CALLS = {
     "cost_visit": Call("prod entries", (7, 11), 1, cost_visit),
     "cost_fill": Call("entries", (7,), 1, cost_fill),
     "min_sentence_cost": Call("rule row entries", (7, 9, 12, 13), 1, min_sentence_cost),
+    "reached_fill": Call("reached", (7,), 1, reached_fill),
     "follow_clear": Call("marks", (7,), 1, follow_clear),
-    "follow_visit": Call("mode prod marks marks row", (7, 8, 11), 1, follow_visit),
-    "follow_fill": Call("mode marks marks row", (7, 8), 1, follow_fill),
+    "follow_visit": Call("mode prod marks marks row reached", (7, 8, 11), 1, follow_visit),
+    "follow_fill": Call("mode marks marks row reached", (7, 8), 1, follow_fill),
     "min_sentence": Call("rule row entries entries room", (7, 9, 12, 13, 14, 15), 1, min_sentence),
     "write_blocks": Call("version bytes", (24, 25, 26), 1, write_blocks),
     "read_blocks": Call("", (7, 20, 21, 22, 23, 25), 5, read_blocks),

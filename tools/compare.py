@@ -11,9 +11,10 @@ FIRST, EMPTY, mode 1 FOLLOW and all paths must be equal; so must the costs where
 it returns and no production used has a rule followed by a token or by a rule whose sentence is not empty. At such a
 place the Rust's sentence must be the one that taking the rest again gives. Where the Rust does not return, or panics,
 the grammar must have what the named difference says, worked out from the grammar alone; if it runs out of time without
-such a reason, it is asked again with more time, which is counted. What we answer there must be
-what document 01 says. Each kind is counted, and each kind of difference shown with the smallest grammar that has it;
-the program exits with 1 if one is not explained.
+such a reason, it is asked again with more time, which is counted. What we answer there must be what document 01 says.
+The reached rules must be rule 0 and those to which the Rust has a path from it; mode 2 FOLLOW must be what the
+documents say, and hold what the Rust's rule gives over the productions of reached rules. Each kind is counted, and each
+kind of difference shown with the smallest grammar that has it; the program exits with 1 if one is not explained.
 """
 import collections
 import concurrent.futures
@@ -39,6 +40,13 @@ UNEXPLAINED = "UNEXPLAINED "
 STOPPED = ("out of time", "out of memory")
 AGAIN = 20  # times the time for a grammar on which the Rust ran out of it without a reason
 STEPS = 100_000  # so many steps of min_sentence fit well into the oracle's time
+# Whether FOLLOW of mode 2 has marks that the Rust has not, and whether the Rust has marks that it has not.
+MODE_2 = {
+    (False, False): "FOLLOW, mode 2: the same",
+    (True, False): "FOLLOW, mode 2: more, since the Rust looks one symbol ahead",
+    (False, True): "FOLLOW, mode 2: fewer, since the Rust counts the productions of rules that are not reached",
+    (True, True): "FOLLOW, mode 2: more and fewer, for both reasons",
+}
 
 
 def part(answer, path):
@@ -83,6 +91,7 @@ def plain_answer(g):
         "empty": [int(r in empty) for r in rules],
         "follow": [sorted(held) for held in plain.follows(g, 1)],
         "corrected": [sorted(held) for held in plain.follows(g, 2)],
+        "reached": [int(r in plain.reached(g)) for r in rules],
         "path": [[int(plain.has_path(g, a, b)) for b in rules] for a in rules],
         "beyond": [outcome(plain.production, g, len(g.owners)), outcome(plain.has_path, g, g.rules, 0),
                    outcome(plain.has_path, g, 0, g.rules)],
@@ -94,6 +103,11 @@ def plain_answer(g):
 def kind_of(outcome):
     """Returned, panicked, or what ran out."""
     return outcome if isinstance(outcome, str) else next(iter(outcome))
+
+
+def not_within(table, other):
+    """Whether some rule has a mark in the one table and not in the other."""
+    return any(not held <= also for held, also in zip(table, other))
 
 
 def size(g):
@@ -190,18 +204,22 @@ class Comparer(Comparison):
     def tables(self):
         for kind, name in ("FIRST", "first"), ("EMPTY", "empty"), ("FOLLOW, mode 1", "follow"), ("paths", "path"):
             self.same(kind, self.rust[name], self.ours[name])
+        self.same("reached rules, by paths from rule 0", [1] + self.rust["path"][0][1:], self.ours["reached"])
         self.corrected()
         self.beyond()
 
     def corrected(self):
         """FOLLOW of mode 2, which the Rust has not."""
-        due = [sorted(held) for held in plain.follows(self.g, 2)]
-        if self.ours["corrected"] != due:
-            self.unexplained("FOLLOW, mode 2: ours is not document 01's", f"{self.ours['corrected']} and not {due}")
-        elif due == self.rust["follow"]:
-            self.count("FOLLOW, mode 2: the same")
+        due, rust = plain.follows(self.g, 2), [set(held) for held in self.rust["follow"]]
+        kind = MODE_2[not_within(due, rust), not_within(rust, due)]
+        if self.ours["corrected"] != [sorted(held) for held in due]:
+            self.unexplained("FOLLOW, mode 2: ours is not the documents'", f"{self.ours['corrected']} and not {due}")
+        elif not_within(self.reading.counted_follow, due):
+            self.unexplained("FOLLOW, mode 2: a mark is lost that a reached rule gives", f"the Rust {rust}, ours {due}")
+        elif due == rust:
+            self.count(kind)
         else:
-            self.differs("FOLLOW, mode 2: more, since the Rust looks one symbol ahead")
+            self.differs(kind)
 
     def beyond(self):
         """Production P, the path from rule R to 0 and that from 0 to R."""

@@ -4,10 +4,11 @@
 
 A call's grammar is of a shape of tools/grammars.py, in one of four with further productions of rule 0; as it is or with
 refusals made due, one or two, or a list cut, lengthened, emptied or with an entry replaced. Tables hold anything, spare
-bits and entries above 65536 included, and may be of a wrong length; numbers may be out of range, room short. A block
-file is of either version and has what a file can have wrong; one that is written must be bin/blocks' own. The answer
-and every element of every list must be equal. It prints how often each call gave each refusal, 0 for an answer; it
-exits with 1 if an answer differs, or if of the usual number of calls none gave some refusal that the call can give.
+bits and entries above 65536 included, and may be of a wrong length; a reached row may be the finished one too, or that
+with a mark changed or spare bits set; numbers may be out of range, room short. A block file is of either version and
+has what a file can have wrong; one that is written must be bin/blocks' own. The answer and every element of every list
+must be equal. It prints how often each call gave each refusal, 0 for an answer; it exits with 1 if an answer differs,
+or if of the usual number of calls none gave some refusal that the call can give.
 """
 import array
 import collections
@@ -35,13 +36,15 @@ SLOW = ["long_sentences", "single_file", "many_rules", "wide_both", "wide_tokens
 QUICK = [name for name in grammars.shapes if name not in SLOW and name not in grammars.large]
 SENTENCES = ["min_sentence_cost", "min_sentence"]
 VISITS = ["cost_visit", "follow_visit"]
+REACHED = ["follow_visit", "follow_fill", "reached_fill"]
 # The calls to draw from: more of those with many refusals or cases. File reads have the longest lists.
 DRAWN = [name for name in calls.CALLS if name != "read_blocks"] * 2 + SENTENCES * 6 + VISITS * 3 + ["read_blocks"] * 3
-DRAWN += ["write_blocks"] * 2
-# The shapes that show most of a call: sentences that are refused, visits that read what they have written, files of
-# several blocks.
+DRAWN += ["write_blocks"] * 2 + ["follow_visit"] * 4
+# The shapes that show most of a call: sentences that are refused, visits that read what they have written, rules that
+# are not reached, files of several blocks.
 TELLING = {name: ["no_sentence", "dear", "dear_flat", "unit_cycles"] for name in SENTENCES}
 TELLING |= {name: ["own_rule", "empty_chains", "right_recursion"] for name in VISITS}
+TELLING |= {name: TELLING.get(name, []) + ["unreached", "unreached", "many_rules"] for name in REACHED}
 TELLING |= {"write_blocks": ["wide_tokens", "wide_both", "many_rules", "dear_flat"]}
 
 
@@ -83,6 +86,12 @@ def number_below(draw, count):
     return draw.choice((min(count, MOST), MOST, draw.randint(0, MOST)))
 
 
+def any_production(draw, g):
+    """Any, in one of four cases one of rule 0's, if it owns some."""
+    own = [p for p, owner in enumerate(g.owners) if owner == 0]
+    return draw.choice(own) if own and draw.random() < 0.25 else number_below(draw, len(g.owners))
+
+
 def one_or_two(draw):
     """A mode or a version: 1 or 2 in most cases, else another number."""
     return draw.choice((1, 2)) if draw.random() < 0.85 else draw.choice((0, 3, MOST, draw.randint(0, MOST)))
@@ -105,6 +114,17 @@ def any_marks(draw, length):
         return [WORD * kind] * length
     few = WORD if kind == 2 else 0
     return [draw.getrandbits(32) & (few or draw.getrandbits(32) & draw.getrandbits(32)) for _ in range(length)]
+
+
+def any_reached(draw, g):
+    """Any row; or, of a well-formed grammar, the finished one, as it is, with one rule's mark turned round, or with its
+    spare bits set. It may be of a wrong length."""
+    if plain.refusal(g) or draw.random() < 0.4:
+        return any_marks(draw, calls.row_length(g))
+    length = any_length(draw, calls.row_length(g))
+    held = plain.reached(g) ^ draw.choice((set(), {0}, {draw.randrange(g.rules)}))
+    held |= draw.choice((set(), set(range(g.rules, 32 * length))))
+    return [sum(1 << r % 32 for r in held if r // 32 == k) for k in range(length)]
 
 
 def any_entries(draw, length):
@@ -140,11 +160,12 @@ def any_bytes(draw, g):
 PARAMETERS = {
     "rule": lambda draw, g, _: number_below(draw, g.rules),
     "token": lambda draw, g, _: number_below(draw, len(g.costs)),
-    "prod": lambda draw, g, _: number_below(draw, len(g.owners)),
+    "prod": lambda draw, g, _: any_production(draw, g),
     "mode": lambda draw, g, _: one_or_two(draw),
     "version": lambda draw, g, _: one_or_two(draw),
     "marks": lambda draw, g, _: any_marks(draw, calls.marks_length(g)),
     "row": lambda draw, g, _: any_marks(draw, calls.row_length(g)),
+    "reached": lambda draw, g, _: any_reached(draw, g),
     "entries": lambda draw, g, _: any_entries(draw, calls.cost_length(g)),
     "room": lambda draw, g, before: any_room(draw, g, before[0]),
     "bytes": lambda draw, g, _: any_bytes(draw, g),

@@ -5,6 +5,7 @@ from block_text import TOP, blocks
 # Inputs of docs/DIFFERENCES.md that are no examples, in the form of bin/blocks; and document 01's sixty rules.
 CASES = {
     "ahead": "tokens c eof|rules start A B|start: A|A: A B c|B:",
+    "unused": "tokens z eof|rules start A U|start: A|A:|U: A z",
     "rest": "tokens a eof|rules start A B|start: A|A: B a|B:",
     "empty loop": "tokens eof|rules start A|start: A|A: A|A:",
     "order": "tokens a b eof|rules start X Y|start: X|X: Y a|Y: b",
@@ -45,6 +46,10 @@ SAID = [
     ("g6", "costs", returned(1, 1), "costs 1", returned(1)),
     ("g6", "sentences 1", returned(1), "sentences 1", returned(1)),
     ("ahead", "follow 1", [1], "corrected 1", [0, 1]),
+    ("dead", "follow 2", [1, 2], "corrected 2", [2]),
+    ("dead", "follow 2", [1, 2], "follow 2", [1, 2]),
+    ("dead", "path 0", [0, 1, 1, 0], "reached", [1, 1, 1, 0]),
+    ("unused", "follow 1", [0, 1], "corrected 1", [1]),
     ("rest", "sentences 1", returned(0, 0), "sentences 1", returned(0)),
     ("empty loop", "costs", LATE, "costs 1", returned(0)),
     ("empty loop", "sentences 1", LATE, "sentences 1", refused(14)),

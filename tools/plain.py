@@ -1,12 +1,12 @@
 #!/usr/bin/env python3
 """Document 01 once more, plain and slow: sets, recursion and whole numbers of any size; of document 02 the versions of
-the block file and several exports in one grammar. It is written from those texts, with the readings of their open
-points in docs/DECISIONS.md, and from no crate.
+the block file, several exports in one grammar, and that in mode 2 of FOLLOW only productions of reached rules count. It
+is written from those texts, with the readings of their open points in docs/DECISIONS.md, and from no crate.
 
     tools/plain.py report FILE         the report of a block file; '-' stands for standard input
 
 As a module it is there to be compared with. The tables follow the definitions and not the visits: what a rule may
-start with is reached over a graph, and the cheapest costs are settled from the cheapest up (Knuth's way). Single
+start with is found over a graph, and the cheapest costs are settled from the cheapest up (Knuth's way). Single
 visits are there beside them. A refusal is the exception Refused with its number. Tables are lists and sets of Python:
 their lengths cannot be wrong, so nothing gives 7.
 """
@@ -105,8 +105,8 @@ def least(step):
         held |= more
 
 
-def reached(start, links):
-    """What is reached from there by one link or more."""
+def linked(start, links):
+    """What one link or more leads to from there."""
     held = set()
 
     def go_on(at):
@@ -150,26 +150,47 @@ def leads(body, empty):
 
 
 def firsts(g):
-    """FIRST of each rule: the tokens reached over symbols that a production may start with."""
+    """FIRST of each rule: the tokens that symbols which a production may start with lead to."""
     check(g)
     empty = empties(g)
     links = {}
     for r, body in g.productions():
         links.setdefault(RULE + r, set()).update(leads(body, empty)[0])
-    return [{s for s in reached(RULE + r, links) if s < RULE} for r in range(g.rules)]
+    return [{s for s in linked(RULE + r, links) if s < RULE} for r in range(g.rules)]
+
+
+def rule_links(g):
+    """The rules in each rule's productions."""
+    links = {}
+    for r, body in g.productions():
+        links.setdefault(r, set()).update(rules_of(body))
+    return links
+
+
+def reached(g):
+    """The reached rules: rule 0 and those that have a path from it."""
+    check(g)
+    return {0} | linked(0, rule_links(g))
 
 
 def follows(g, mode):
-    """FOLLOW of each rule, in the crate's mode (1) or corrected (2)."""
+    """FOLLOW of each rule, in the crate's mode (1), where all productions count, or corrected (2), where those of
+    reached rules do."""
     check(g)
     if mode not in (1, 2):
         raise Refused(8)
+    return least_follow(g, mode, range(g.rules) if mode == 1 else reached(g))
+
+
+def least_follow(g, mode, counting):
+    """The least table that holds (rule 0, eof) and is closed under the mode's rule over the productions of the rules
+    that count."""
     first, empty = firsts(g), empties(g)
     own = [set() for _ in range(g.rules)]
     own[0].add(g.eof)
     heirs = {}  # the rules that have all of a rule's FOLLOW
     for r, body in g.productions():
-        for k, a in enumerate(body):
+        for k, a in enumerate(body if r in counting else []):
             if a < RULE:
                 continue
             after, past = leads(body[k + 1 :], empty)
@@ -179,7 +200,7 @@ def follows(g, mode):
                 heirs.setdefault(r, set()).add(a - RULE)
     follow = [set(held) for held in own]
     for r in range(g.rules):
-        for heir in reached(r, heirs):
+        for heir in linked(r, heirs):
             follow[heir] |= own[r]
     return follow
 
@@ -188,10 +209,7 @@ def has_path(g, a, b):
     """Whether rule a derives, in one step or more, a form that holds rule b."""
     check(g)
     check_rule(g, a, b)
-    links = {}
-    for r, body in g.productions():
-        links.setdefault(r, set()).update(rules_of(body))
-    return b in reached(a, links)
+    return b in linked(a, rule_links(g))
 
 
 def price(g, body, known):
@@ -309,12 +327,15 @@ def visit_first(g, p, first, empty):
     return (first[r], r in empty) != before
 
 
-def visit_follow(g, mode, p, follow, first, empty):
-    """One visit of FOLLOW."""
+def visit_follow(g, mode, p, follow, first, empty, reached):
+    """One visit of FOLLOW. In mode 2 a production of a rule that is not among those held as reached changes nothing;
+    mode 1 does not look at these."""
     check(g)
     if mode not in (1, 2):
         raise Refused(8)
     body, r = production(g, p), g.owners[p]
+    if mode == 2 and r not in reached:
+        return False
     before = [set(held) for held in follow]
     for k in reversed(range(len(body))):
         if body[k] < RULE:

@@ -1,5 +1,6 @@
 """What document 01 says of the costs and sentences of a grammar, and what the loops of the Rust make of them: where
-they do not return, where they panic, and what they write. All is worked out from the grammar alone."""
+they do not return, where they panic, and what they write; and what is left of the Rust's FOLLOW where only productions
+of reached rules count. All is worked out from the grammar alone."""
 import collections
 import functools
 
@@ -9,7 +10,7 @@ from plain import MOST, RULE
 
 
 def circle(links):
-    return any(r in plain.reached(r, links) for r in links)
+    return any(r in plain.linked(r, links) for r in links)
 
 
 class Reading:
@@ -25,6 +26,11 @@ class Reading:
         self.choice = plain.cheapest_first(g, fit)
         self.lengths = plain.sentence_lengths(self.choice)
         self.taken, self.written = {}, {}
+
+    @functools.cached_property
+    def counted_follow(self):
+        """FOLLOW by the Rust's rule, the next symbol alone, over the productions of reached rules."""
+        return plain.least_follow(self.g, 1, plain.reached(self.g))
 
     def cost(self, r):
         if r not in self.known:
@@ -91,7 +97,7 @@ class Reading:
 
     def used(self, r):
         """The rules whose first choice is taken."""
-        return {r} | plain.reached(r, {rule: plain.rules_of(body) for rule, body in self.choice.items()})
+        return {r} | plain.linked(r, {rule: plain.rules_of(body) for rule, body in self.choice.items()})
 
     def place(self, r):
         """Whether a production used has a rule followed by a token or by a rule whose sentence is not empty."""

@@ -14,6 +14,7 @@ import plain
 
 EXAMPLES = pathlib.Path(__file__).resolve().parent.parent / "examples"
 G1 = plain.read((EXAMPLES / "g1.blk").read_bytes())
+DEAD = plain.read((EXAMPLES / "dead.blk").read_bytes())
 
 
 class Small(unittest.TestCase):
@@ -86,9 +87,30 @@ class Calls(unittest.TestCase):
         self.assertEqual((first, empty), ([5, 5, 4, 2], [12]))
 
     def test_follow(self):
-        follow, first, empty = [0] * 4, [0] * 4, [0]
-        self.assertEqual(calls.answer("follow_fill", [G1, 2, follow, first, empty]), [0, 0])
-        self.assertEqual(follow, [8, 8, 1, 8])
+        follow, first, empty, reached = [0] * 4, [0] * 4, [0], [1 << 31]
+        self.assertEqual(calls.answer("follow_fill", [G1, 2, follow, first, empty, reached]), [0, 0])
+        self.assertEqual((follow, reached), ([8, 8, 1, 8], [15]))
+
+    def test_reached(self):
+        # S: A; A: a; U: A z. Rules 1 S, 2 A, 3 U; tokens 0 a, 1 z
+        reached = [1 << 31]
+        self.assertEqual(calls.answer("reached_fill", [DEAD, reached]), [0, 0])
+        self.assertEqual(reached, [7])
+        for length in 0, 2:
+            row = [9] * length
+            self.assertEqual(calls.answer("reached_fill", [DEAD, row]), [7, 0])
+            self.assertEqual(row, [9] * length)
+
+    def test_dead_rules(self):
+        for mode, held in (1, 6), (2, 4):
+            tables = [9] * 4, [9] * 4, [9], [9]
+            self.assertEqual(calls.answer("follow_fill", [DEAD, mode, *tables]), [0, 0])
+            self.assertEqual(tables, ([4, 4, held, 0], [1, 1, 1, 1], [0], [7]))
+        # what counts is the lent row: with the bit of U set, its production counts
+        for mode, row, changed in (2, 7, 0), (2, 15, 1), (2, 8, 1), (2, 0, 0), (2, 1 << 31, 0), (1, 0, 1):
+            follow, reached = [4, 4, 4, 0], [row]
+            self.assertEqual(calls.answer("follow_visit", [DEAD, mode, 3, follow, [1] * 4, [0], reached]), [0, changed])
+            self.assertEqual((follow, reached), ([4, 4, 4 + 2 * changed, 0], [row]))
 
     def test_spare_bits_stay(self):
         first, empty = [1 << 4] * 4, [1 << 4]
@@ -106,10 +128,14 @@ class Calls(unittest.TestCase):
         self.assertEqual(cost, [1, 1, 0, 0])
 
     def test_order(self):
-        tables = [0] * 3, [0] * 4, [0]
+        tables = [0] * 3, [0] * 4, [0], [0]
         self.assertEqual(calls.answer("follow_visit", [G1, 3, 99, *tables]), [7, 0])
         self.assertEqual(calls.answer("follow_visit", [G1, 3, 99, [0] * 4, *tables[1:]]), [8, 0])
         self.assertEqual(calls.answer("follow_visit", [G1, 1, 6, [0] * 4, *tables[1:]]), [11, 0])
+        for mode in 1, 2, 3:
+            for row in [], [0, 0]:
+                self.assertEqual(calls.answer("follow_visit", [G1, mode, 99, [0] * 4, [0] * 4, [0], row]), [7, 0])
+                self.assertEqual(calls.answer("follow_fill", [G1, mode, [0] * 4, [0] * 4, [0], row]), [7, 0])
 
     def test_production(self):
         self.assertEqual(calls.answer("production", [G1, 3]), [0, 4, 2])

@@ -74,12 +74,14 @@ def ends(choice, r, depth):
 
 
 def closed_follow(g, mode):
-    """The least table closed under FOLLOW's rules, by rounds, in document 01's words."""
+    """The least table closed under FOLLOW's rules, by rounds, in document 01's words; in mode 2 over the productions of
+    rules that are rule 0 or have a path from it, in document 02's."""
     first, empty = plain.firsts(g), plain.empties(g)
     table = {(0, len(g.costs) - 1)}
+    counting = [(r, body) for r, body in g.productions() if mode == 1 or r == 0 or plain.has_path(g, 0, r)]
     while True:
         more = set()
-        for r, body in g.productions():
+        for r, body in counting:
             ends = {t for a, t in table if a == r}
             for k, a in enumerate(body):
                 after = body[k + 1 :]
@@ -99,6 +101,17 @@ def closed_follow(g, mode):
         if more <= table:
             return [{t for a, t in table if a == r} for r in range(g.rules)]
         table |= more
+
+
+def standing(g, longest):
+    """For each rule A the tokens t such that A t stands in a form derived from start and eof, through forms of at most
+    that length."""
+    held = [set() for _ in range(g.rules)]
+    for form in {(RULE, g.eof), *((*form, g.eof) for form in forms(g, 0, longest - 1))}:
+        for a, t in zip(form, form[1:]):
+            if a >= RULE and t < RULE:
+                held[a - RULE].add(t)
+    return held
 
 
 def settled(g, dice, visit, *tables):
@@ -142,6 +155,17 @@ class Plain(unittest.TestCase):
         self.assertEqual(refused(plain.sentence_cost, example("g5-dear"), 1), 13)
         self.assertEqual(plain.sentence_cost(example("g5-either"), 1), 1)
         self.assertEqual((plain.costs(g6)[1], plain.sentence(g6, 1)), (1, [1]))
+
+    def test_dead_rules(self):
+        g = example("dead")
+        self.assertEqual(plain.reached(g), {0, 1, 2})
+        self.assertEqual(plain.follows(g, 1), [{2}, {2}, {1, 2}, set()])
+        self.assertEqual(plain.follows(g, 2), [{2}, {2}, {2}, set()])
+        self.assertEqual(standing(g, 5), plain.follows(g, 2))
+        # start: S; start: U: two exports, and both are reached
+        both = exported(g, [RULE + 3])
+        self.assertEqual(plain.reached(both), {0, 1, 2, 3})
+        self.assertEqual(plain.follows(both, 2), [{2}, {2}, {1, 2}, {2}])
 
     def test_edges_of_document_01(self):
         ring = [RULE + 1] + [RULE + r + 1 for r in range(1, 512)]
@@ -232,6 +256,7 @@ class Plain(unittest.TestCase):
                     self.assertEqual(plain.has_path(g, a, b), any(RULE + b in f for f in derived[a]))
                 for mode in 1, 2:
                     self.assertEqual(plain.follows(g, mode), closed_follow(g, mode))
+                self.assertEqual(plain.follows(g, 2), standing(g, 7))
                 paid = sentence_costs(g, 60)
                 self.assertEqual(plain.productives(g), {r for r, held in enumerate(paid) if held})
                 self.assertEqual(plain.costs(g), [min(held, default=65536) for held in paid])
@@ -242,7 +267,8 @@ class Plain(unittest.TestCase):
         self.assertEqual((first, empty), (plain.firsts(g), plain.empties(g)))
         for mode in 1, 2:
             follow = plain.cleared(g)[2]
-            settled(g, dice, lambda p, held: plain.visit_follow(g, mode, p, held, first, empty), follow)
+            visit = lambda p, held: plain.visit_follow(g, mode, p, held, first, empty, plain.reached(g))
+            settled(g, dice, visit, follow)
             self.assertEqual(follow, plain.follows(g, mode))
             self.assertEqual(follow, closed_follow(g, mode))
         settled(g, dice, lambda p, held: plain.visit_productive(g, p, held), productive)
@@ -273,7 +299,7 @@ class Plain(unittest.TestCase):
         g = Grammar(3, [0, 1, 1, 2], [0, 1, 3, 4, 5], [RULE + 1, RULE + 1, RULE + 2, 0, 1], [1, 1, 1])
         first, empty, follow = plain.firsts(g), plain.empties(g), [{2}, {2}, set()]
         for changed, held in (True, [{2}, {1, 2}, {2}]), (True, [{2}, {1, 2}, {1, 2}]), (False, [{2}, {1, 2}, {1, 2}]):
-            self.assertEqual(plain.visit_follow(g, 2, 1, follow, first, empty), changed)
+            self.assertEqual(plain.visit_follow(g, 2, 1, follow, first, empty, {0, 1, 2}), changed)
             self.assertEqual(follow, held)
 
     def test_random_sentences(self):

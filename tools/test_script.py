@@ -81,7 +81,8 @@ class Case:
     def __init__(self, grammar, lent):
         rules, *lists = grammar.split(";")
         self.grammar = plain.Grammar(int(rules), *map(numbers, lists))
-        self.a, self.b, self.c, self.out = map(numbers, lent.split(";"))
+        self.a, self.b, self.c, self.out, *d = map(numbers, lent.split(";"))
+        self.has_d, self.d = bool(d), d[0] if d else []
 
     def answers(self, name, given):
         """The line's answer, and what it leaves in the lent lists; None for a line without one."""
@@ -89,7 +90,7 @@ class Case:
             *words, out = (shown(each) for each in (self.a, self.b, self.c, self.out))
             if len(self.out) >= SHORT:
                 out = shown(self.out[:FRONT]) + " .."
-            return ";".join([*words, out])
+            return ";".join([*words, out, *([shown(self.d)] if self.has_d else [])])
         if name == "at":
             return said([self.out[given[0]]])
         if name == "count":
@@ -110,7 +111,7 @@ class Case:
         takes = calls.CALLS[name].takes.split()
         lists = iter([self.b] if name == "rule_mark" else [self.a, self.b, self.c])
         given = iter(given)
-        kinds = {"marks": lists, "row": lists, "entries": lists, "room": iter([self.out])}
+        kinds = {"marks": lists, "row": lists, "entries": lists, "reached": iter([self.d]), "room": iter([self.out])}
         refusal, *values = calls.answer(name, [self.grammar, *(next(kinds.get(kind, given)) for kind in takes)])
         return [f"refused {refusal}"] if refusal else values
 

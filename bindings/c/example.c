@@ -9,7 +9,7 @@
 static uint8_t file[98 * 512 + 1]; /* one byte more than the longest file: a longer one is refused */
 static uint16_t owners[4096], starts[4097], symbols[16384];
 static uint8_t costs[512];
-static uint32_t follow[512 * 16], first[512 * 16], empty[16];
+static uint32_t follow[512 * 16], first[512 * 16], empty[16], reached[16];
 
 int main(int argc, char **argv) {
     if (argc != 2) {
@@ -38,7 +38,7 @@ int main(int argc, char **argv) {
     size_t width = (n.tokens + 31) / 32, marks = n.rules * width, row = (n.rules + 31) / 32;
     boltmarrow_answer done =
         boltmarrow_follow_fill(rules, owners, n.prods, starts, n.prods + 1, symbols, n.symbols, costs,
-                               n.tokens, 2, follow, marks, first, marks, empty, row);
+                               n.tokens, 2, follow, marks, first, marks, empty, row, reached, row);
     if (done.refusal) {
         fprintf(stderr, "%s: FOLLOW refused %u\n", argv[1], done.refusal);
         return 1;

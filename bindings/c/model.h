@@ -1,7 +1,7 @@
-/* Document 01 once more in C, with the file writer, the versions and the several exports of document 02, plain and
- * slow, to compare the library with. It is written from those texts, with the readings of their open points in
- * docs/DECISIONS.md, and from no crate. A call names an exported function and holds what it is lent; `model` makes the
- * call on those lists. */
+/* Document 01 once more in C, with the file writer, the versions, the several exports and the reached rules of
+ * document 02, plain and slow, to compare the library with. It is written from those texts, with the readings of their
+ * open points in docs/DECISIONS.md, and from no crate. A call names an exported function and holds what it is lent;
+ * `model` makes the call on those lists. */
 #include <stddef.h>
 #include <stdint.h>
 #include <string.h>
@@ -32,6 +32,7 @@ typedef enum {
     COST_VISIT,
     COST_FILL,
     MIN_SENTENCE_COST,
+    REACHED_FILL,
     FOLLOW_CLEAR,
     FOLLOW_VISIT,
     FOLLOW_FILL,
@@ -41,15 +42,16 @@ typedef enum {
 } op;
 
 /* The tables that a call is lent, in order: T a row of tokens a rule, E one row of rules, C a number a rule. */
-static const char *const tables_of[OPS] = {"",  "",  "T",  "E", "TE", "TE",  "TE",  "",   "E", "E",
-                                           "E", "C", "C",  "C", "EC", "T",   "TTE", "TTE", "ECC", ""};
+enum { TABLES = 4 };
+static const char *const tables_of[OPS] = {"",  "",  "T", "E",  "TE", "TE", "TE",   "",     "E",   "E", "E",
+                                           "C", "C", "C", "EC", "E",  "T",  "TTEE", "TTEE", "ECC", ""};
 
 typedef struct {
     op op;
     grammar g;
     uint16_t rule, token, prod, mode, to, version; /* those that the call takes */
-    uint32_t *table[3];
-    size_t table_len[3];
+    uint32_t *table[TABLES];
+    size_t table_len[TABLES];
     uint16_t *out;
     size_t out_len;
     uint8_t *bytes;
@@ -153,9 +155,11 @@ static int step_follow(const grammar *g, size_t p, size_t i, int mode, uint32_t 
     return changed;
 }
 
+/* In mode 2 a production of a rule that the reached row does not mark changes nothing; mode 1 does not read the row. */
 static int visit_follow(const grammar *g, size_t p, int mode, uint32_t *follow, const uint32_t *first,
-                        const uint32_t *empty) {
+                        const uint32_t *empty, const uint32_t *reached) {
     int changed = 0;
+    if (mode == 2 && !marked(reached, g->owners[p])) return 0;
     for (size_t i = g->starts[p + 1]; i-- > g->starts[p];)
         if (g->symbols[i] >= RULE) changed |= step_follow(g, p, i, mode, follow, first, empty);
     return changed;
@@ -204,15 +208,6 @@ static void fill_first(const grammar *g, uint32_t *first, uint32_t *empty) {
     }
 }
 
-static void fill_follow(const grammar *g, int mode, uint32_t *follow, uint32_t *first, uint32_t *empty) {
-    fill_first(g, first, empty);
-    clear_follow(g, follow);
-    for (int again = 1; again;) {
-        again = 0;
-        for (size_t p = 0; p < g->prods; p++) again |= visit_follow(g, p, mode, follow, first, empty);
-    }
-}
-
 static void fill_productive(const grammar *g, uint32_t *productive) {
     clear(productive, length_of('E', g), 0);
     for (int again = 1; again;) {
@@ -231,16 +226,34 @@ static void fill_cost(const grammar *g, uint32_t *cost) {
 
 /* Whether `to` stands in some form that `from` derives in one or more steps. */
 static int path(const grammar *g, size_t from, size_t to) {
-    uint8_t reached[512] = {0};
+    uint8_t held[512] = {0};
     for (int again = 1; again;) {
         again = 0;
         for (size_t p = 0; p < g->prods; p++) {
-            if (g->owners[p] != from && !reached[g->owners[p]]) continue;
+            if (g->owners[p] != from && !held[g->owners[p]]) continue;
             for (size_t i = g->starts[p]; i < g->starts[p + 1]; i++)
-                if (g->symbols[i] >= RULE && !reached[g->symbols[i] - RULE]) again = reached[g->symbols[i] - RULE] = 1;
+                if (g->symbols[i] >= RULE && !held[g->symbols[i] - RULE]) again = held[g->symbols[i] - RULE] = 1;
         }
     }
-    return reached[to];
+    return held[to];
+}
+
+/* The reached rules: rule 0, and each that has a path from it. */
+static void fill_reached(const grammar *g, uint32_t *reached) {
+    clear(reached, length_of('E', g), 0);
+    for (size_t r = 0; r < g->rules; r++)
+        if (r == 0 || path(g, 0, r)) mark(reached, r);
+}
+
+static void fill_follow(const grammar *g, int mode, uint32_t *follow, uint32_t *first, uint32_t *empty,
+                        uint32_t *reached) {
+    fill_reached(g, reached);
+    fill_first(g, first, empty);
+    clear_follow(g, follow);
+    for (int again = 1; again;) {
+        again = 0;
+        for (size_t p = 0; p < g->prods; p++) again |= visit_follow(g, p, mode, follow, first, empty, reached);
+    }
 }
 
 /* A rule's lowest-numbered production whose cost equals the rule's; the number of productions if it has no cost. */
@@ -393,7 +406,7 @@ static uint32_t refusal_of(const call *c) {
 
 static result model(call *c) {
     const grammar *g = &c->g;
-    uint32_t *a = c->table[0], *b = c->table[1], number = refusal_of(c);
+    uint32_t *a = c->table[0], *b = c->table[1], *d = c->table[2], *e = c->table[3], number = refusal_of(c);
     result r = {0, {0}};
     if (number) return refused(number);
     switch (c->op) {
@@ -439,13 +452,16 @@ static result model(call *c) {
         fill_cost(g, b);
         if (!marked(a, c->rule)) return refused(12);
         return b[c->rule] > MOST ? refused(13) : answered(b[c->rule]);
+    case REACHED_FILL:
+        fill_reached(g, a);
+        return r;
     case FOLLOW_CLEAR:
         clear_follow(g, a);
         return r;
     case FOLLOW_VISIT:
-        return answered((uint32_t)visit_follow(g, c->prod, c->mode, a, b, c->table[2]));
+        return answered((uint32_t)visit_follow(g, c->prod, c->mode, a, b, d, e));
     case FOLLOW_FILL:
-        fill_follow(g, c->mode, a, b, c->table[2]);
+        fill_follow(g, c->mode, a, b, d, e);
         return r;
     case MIN_SENTENCE:
         return sentence(c);

@@ -102,15 +102,19 @@ static void read_numbers(uint32_t highest) {
     while (*here == ' ') here++, read_run(highest);
 }
 
-/* Lent lists: a case's grammar, its tables and room, a file or room for one, and what a file is read into. */
-enum { OWNERS, STARTS, SYMBOLS, COSTS, A, B, C, OUT, BYTES, READ_OWNERS, READ_STARTS, READ_SYMBOLS, READ_COSTS, LISTS };
-static const size_t size[LISTS] = {2, 2, 2, 1, 4, 4, 4, 2, 1, 2, 2, 2, 1};
+/* Lent lists: a case's grammar, its tables and room, a file or room for one, and what a file is read into. D is of
+ * length 0 in a case that has none. */
+enum {
+    OWNERS, STARTS, SYMBOLS, COSTS, A, B, C, OUT, D, BYTES, READ_OWNERS, READ_STARTS, READ_SYMBOLS, READ_COSTS, LISTS
+};
+static const size_t size[LISTS] = {2, 2, 2, 1, 4, 4, 4, 2, 4, 1, 2, 2, 2, 1};
 static uint8_t rooms[LISTS][GUARD + 4 * MOST + 2 * FENCE], guard[GUARD];
 static struct {
     uint8_t *fence, *at;
     size_t len;
 } lent[LISTS];
 static uint16_t rules;
+static int has_d;
 
 /* Puts the list that was read or made where it is lent. Numbers stand low byte first, here as in the library. */
 static void lend(int list) {
@@ -217,9 +221,10 @@ static void say_stretch(boltmarrow_stretch s) {
     EACH(cost_visit, 0, G, PROD(i), T(A))                                                                              \
     ONE(cost_fill, 0, G, T(A))                                                                                         \
     ONE(min_sentence_cost, 1, G, RULE(0), T(A), T(B))                                                                  \
+    ONE(reached_fill, 0, G, T(D))                                                                                      \
     ONE(follow_clear, 0, G, T(A))                                                                                      \
-    EACH(follow_visit, 1, G, N(0), PROD(i), T(A), T(B), T(C))                                                          \
-    ONE(follow_fill, 1, G, N(0), T(A), T(B), T(C))                                                                     \
+    EACH(follow_visit, 1, G, N(0), PROD(i), T(A), T(B), T(C), T(D))                                                    \
+    ONE(follow_fill, 1, G, N(0), T(A), T(B), T(C), T(D))                                                               \
     ONE(min_sentence, 1, G, RULE(0), T(A), T(B), T(C), LIST(uint16_t, OUT))
 
 #define ONE(name, numbers, ...)                                                                                        \
@@ -239,6 +244,10 @@ static void show(void) {
     }
     say_list(OUT, lent[OUT].len < LONG ? lent[OUT].len : FRONT);
     if (lent[OUT].len >= LONG) printf(" ..");
+    if (has_d) {
+        printf(";");
+        say_list(D, lent[D].len);
+    }
 }
 
 static void at(void) {
@@ -457,11 +466,23 @@ static void make_step(void) {
 }
 
 /* The lists of a line, with a semicolon between two. */
-static void lend_line(int first, int last) {
+static void lend_lists(int first, int last) {
     for (int list = first; list <= last; list++) {
         lend_read(list);
-        need(list < last ? ';' : 0);
+        if (list < last) need(';');
     }
+}
+
+/* The lent tables: a, b, c and out, and behind them d where a case has it. */
+static void lend_tables(void) {
+    lend_lists(A, OUT);
+    lend_same(D, 0, 0);
+    has_d = *here == ';';
+    if (has_d) {
+        need(';');
+        lend_read(D);
+    }
+    need(0);
 }
 
 static void make_case(void) {
@@ -471,9 +492,10 @@ static void make_case(void) {
     need_line();
     rules = (uint16_t)read_number(UINT16_MAX);
     need(';');
-    lend_line(OWNERS, COSTS);
+    lend_lists(OWNERS, COSTS);
+    need(0);
     need_line();
-    lend_line(A, OUT);
+    lend_tables();
     need_line();
     if (*line == 0) fail("the case asks nothing", line);
     for (; *line; need_line()) make_step();

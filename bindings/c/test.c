@@ -8,7 +8,7 @@
 #include "boltmarrow.h"
 #include "model.h"
 
-enum { WORDS = 1000000, GUARD = 64, PATTERN = 0xA5, SLOTS = 8, FENCE = 65536 };
+enum { WORDS = 1000000, GUARD = 64, PATTERN = 0xA5, LENT = 4 + TABLES, SLOTS = LENT + 1, FENCE = 65536 };
 
 static unsigned long calls, checks, wrong;
 
@@ -74,7 +74,8 @@ static const char *const names[OPS] = {
     "check",        "production",       "mark",             "rule_mark",       "first_clear",
     "first_visit",  "first_fill",       "has_path",         "productive_clear", "productive_visit",
     "productive_fill", "cost_clear",    "cost_visit",       "cost_fill",       "min_sentence_cost",
-    "follow_clear", "follow_visit",     "follow_fill",      "min_sentence",    "write_blocks"};
+    "reached_fill", "follow_clear",     "follow_visit",     "follow_fill",     "min_sentence",
+    "write_blocks"};
 
 static result pack(boltmarrow_answer a) {
     result r = {a.refusal, {a.value}};
@@ -90,7 +91,7 @@ static result stretch(boltmarrow_stretch s) {
 typedef struct {
     uint16_t *owners, *starts, *symbols, *out;
     uint8_t *costs, *bytes;
-    uint32_t *table[3];
+    uint32_t *table[TABLES];
 } copies;
 
 static copies lend_all(const call *c) {
@@ -99,8 +100,8 @@ static copies lend_all(const call *c) {
     l.owners = lend(0, g->owners, g->prods, 2), l.starts = lend(1, g->starts, g->starts_len, 2);
     l.symbols = lend(2, g->symbols, g->symbols_len, 2), l.costs = lend(3, g->costs, g->tokens, 1);
     for (int i = 0; i < (int)strlen(tables_of[c->op]); i++) l.table[i] = lend(4 + i, c->table[i], c->table_len[i], 4);
-    if (c->op == MIN_SENTENCE) l.out = lend(7, c->out, c->out_len, 2);
-    if (c->op == WRITE_BLOCKS) l.bytes = lend(7, c->bytes, c->bytes_len, 1);
+    if (c->op == MIN_SENTENCE) l.out = lend(LENT, c->out, c->out_len, 2);
+    if (c->op == WRITE_BLOCKS) l.bytes = lend(LENT, c->bytes, c->bytes_len, 1);
     return l;
 }
 
@@ -145,12 +146,14 @@ static result library(const call *c, copies l) {
         return pack(boltmarrow_cost_fill(G, T(0)));
     case MIN_SENTENCE_COST:
         return pack(boltmarrow_min_sentence_cost(G, rule, T(0), T(1)));
+    case REACHED_FILL:
+        return pack(boltmarrow_reached_fill(G, T(0)));
     case FOLLOW_CLEAR:
         return pack(boltmarrow_follow_clear(G, T(0)));
     case FOLLOW_VISIT:
-        return pack(boltmarrow_follow_visit(G, c->mode, prod, T(0), T(1), T(2)));
+        return pack(boltmarrow_follow_visit(G, c->mode, prod, T(0), T(1), T(2), T(3)));
     case FOLLOW_FILL:
-        return pack(boltmarrow_follow_fill(G, c->mode, T(0), T(1), T(2)));
+        return pack(boltmarrow_follow_fill(G, c->mode, T(0), T(1), T(2), T(3)));
     case MIN_SENTENCE:
         return pack(boltmarrow_min_sentence(G, rule, T(0), T(1), T(2), l.out, c->out_len));
     case WRITE_BLOCKS:
@@ -176,8 +179,9 @@ WIDE(boltmarrow_answer, has_path, uint64_t, uint64_t);
 WIDE(boltmarrow_answer, productive_visit, uint64_t, LIST(uint32_t));
 WIDE(boltmarrow_answer, cost_visit, uint64_t, LIST(uint32_t));
 WIDE(boltmarrow_answer, min_sentence_cost, uint64_t, LIST(uint32_t), LIST(uint32_t));
-WIDE(boltmarrow_answer, follow_visit, uint64_t, uint64_t, LIST(uint32_t), LIST(const uint32_t), LIST(const uint32_t));
-WIDE(boltmarrow_answer, follow_fill, uint64_t, LIST(uint32_t), LIST(uint32_t), LIST(uint32_t));
+WIDE(boltmarrow_answer, follow_visit, uint64_t, uint64_t, LIST(uint32_t), LIST(const uint32_t), LIST(const uint32_t),
+     LIST(const uint32_t));
+WIDE(boltmarrow_answer, follow_fill, uint64_t, LIST(uint32_t), LIST(uint32_t), LIST(uint32_t), LIST(uint32_t));
 WIDE(boltmarrow_answer, min_sentence, uint64_t, LIST(uint32_t), LIST(uint32_t), LIST(uint32_t), LIST(uint16_t));
 WIDE(boltmarrow_answer, write_blocks, uint64_t, LIST(uint8_t));
 
@@ -204,9 +208,9 @@ static result wide(const call *c, copies l) {
     case MIN_SENTENCE_COST:
         return pack(wide_min_sentence_cost(rules, LISTS, rule, T(0), T(1)));
     case FOLLOW_VISIT:
-        return pack(wide_follow_visit(rules, LISTS, mode, prod, T(0), T(1), T(2)));
+        return pack(wide_follow_visit(rules, LISTS, mode, prod, T(0), T(1), T(2), T(3)));
     case FOLLOW_FILL:
-        return pack(wide_follow_fill(rules, LISTS, mode, T(0), T(1), T(2)));
+        return pack(wide_follow_fill(rules, LISTS, mode, T(0), T(1), T(2), T(3)));
     case MIN_SENTENCE:
         return pack(wide_min_sentence(rules, LISTS, rule, T(0), T(1), T(2), l.out, c->out_len));
     case WRITE_BLOCKS:
@@ -234,8 +238,8 @@ static result run(call *c) {
     returned(what, 2, c->g.symbols);
     returned(what, 3, c->g.costs);
     for (int i = 0; i < (int)strlen(tables_of[c->op]); i++) returned(what, 4 + i, c->table[i]);
-    if (c->op == MIN_SENTENCE) returned(what, 7, c->out);
-    if (c->op == WRITE_BLOCKS) returned(what, 7, c->bytes);
+    if (c->op == MIN_SENTENCE) returned(what, LENT, c->out);
+    if (c->op == WRITE_BLOCKS) returned(what, LENT, c->bytes);
     return got;
 }
 
@@ -266,7 +270,7 @@ static void prod(uint16_t owner, const uint16_t *list, size_t count) {
 #define PROD(owner, ...) prod(owner, (const uint16_t[]){__VA_ARGS__}, sizeof((const uint16_t[]){__VA_ARGS__}) / 2)
 #define R(n) (RULE + (n))
 
-static uint32_t words[3][WORDS];
+static uint32_t words[TABLES][WORDS];
 static uint16_t output[100000];
 static uint8_t bytes[100000];
 
@@ -293,7 +297,7 @@ enum { ROOM = 98 * BLOCK + 100 };
 /* A call on the grammar at hand, its tables of the right lengths and full of random words, version 1, and room for any
  * file. */
 static call make(op which) {
-    call c = {which, g, 0, 0, 0, 1, 0, 1, {words[0], words[1], words[2]}, {0, 0, 0}, output, 100, bytes, ROOM};
+    call c = {which, g, 0, 0, 0, 1, 0, 1, {words[0], words[1], words[2], words[3]}, {0}, output, 100, bytes, ROOM};
     for (size_t i = 0; i < strlen(tables_of[which]); i++) {
         c.table_len[i] = length_of(tables_of[which][i], &g);
         for (size_t j = 0; j < c.table_len[i]; j++) words[i][j] = word();
@@ -331,6 +335,16 @@ static uint32_t rule_row(int table) {
 static void follow_is(uint16_t mode, uint16_t rule, uint32_t bits) {
     fill(FOLLOW_FILL, mode);
     expect("FOLLOW", row(rule), bits);
+}
+
+static void reached_is(uint32_t bits) {
+    fill(REACHED_FILL, 0);
+    expect("reached", words[0][0], bits);
+    expect("reached", rule_row(0), bits);
+    for (uint16_t mode = 1; mode < 3; mode++) {
+        fill(FOLLOW_FILL, mode);
+        expect("reached by FOLLOW's fill", words[3][0], bits);
+    }
 }
 
 static void first_is(uint16_t rule, uint32_t bits) {
@@ -505,6 +519,65 @@ static void exports(void) {
     first_is(0, 1);
     follow_is(2, 1, 2);
     sentence_is(0, 1, 0, 1);
+}
+
+/* Document 02's dead rule: start: S; S: A; A: a; U: A z. Rules 1 S, 2 A, 3 U; tokens 0 a, 1 z, 2 eof. */
+static void begin_dead(void) {
+    begin(4, 3, 1);
+    PROD(0, R(1));
+    PROD(1, R(2));
+    PROD(2, 0);
+    PROD(3, R(2), 1);
+}
+
+/* A visit of a production where FIRST and EMPTY are finished, start and S have eof in FOLLOW, and A and the reached row
+ * are as given: whether it changed something, and what A then has. */
+static void dead_visit(uint16_t mode, uint16_t prod, uint32_t reached, uint32_t a, uint32_t changed, uint32_t after) {
+    call c = make(FOLLOW_VISIT);
+    c.mode = mode, c.prod = prod;
+    words[0][0] = 4, words[0][1] = 4, words[0][2] = a, words[0][3] = 0;
+    for (int r = 0; r < 4; r++) words[1][r] = 1;
+    words[2][0] = 0, words[3][0] = reached;
+    expect("visit of a dead rule", run(&c).field[0], changed);
+    expect("after it", words[0][2], after);
+    expect("the reached row", words[3][0], reached);
+}
+
+static void dead(void) {
+    static const uint32_t follow[2][4] = {{4, 4, 6, 0}, {4, 4, 4, 0}};
+    begin_dead();
+    reached_is(7);
+    for (uint16_t r = 0; r < 4; r++) {
+        follow_is(1, r, follow[0][r]);
+        follow_is(2, r, follow[1][r]);
+        path_is(0, r, r == 1 || r == 2);
+    }
+    /* what counts is the lent row; spare bits and the bits of other rules say nothing, and mode 1 reads none */
+    for (uint32_t row = 0; row < 16; row++) {
+        dead_visit(2, 3, row, 4, row >> 3, row & 8 ? 6 : 4);
+        dead_visit(2, 3, row | 0xFFFFFFF0, 4, row >> 3, row & 8 ? 6 : 4);
+        dead_visit(2, 1, row, 0, row >> 1 & 1, row & 2 ? 4 : 0);
+        dead_visit(1, 3, row, 4, 1, 6);
+        dead_visit(1, 1, row, 0, 1, 4);
+    }
+    /* with rule 0's bit clear its production changes nothing */
+    for (uint32_t row = 0; row < 16; row++) {
+        call c = make(FOLLOW_VISIT);
+        c.mode = 2, c.prod = 0;
+        words[0][0] = 4, words[0][1] = 0, words[0][2] = 0, words[0][3] = 0, words[3][0] = row;
+        expect("visit of rule 0's production", run(&c).field[0], row & 1);
+        expect("after it", words[0][1], row & 1 ? 4 : 0);
+    }
+    /* two exports, U one of them */
+    begin_dead(), PROD(0, R(3));
+    reached_is(15);
+    follow_is(2, 2, 6);
+    follow_is(2, 3, 4);
+    /* a ring of dead rules that holds a reached one: start: A; A: a; B: C A; C: B */
+    begin(4, 2, 1), PROD(0, R(1)), PROD(1, 0), PROD(2, R(3), R(1)), PROD(3, R(2));
+    reached_is(3);
+    follow_is(2, 1, 2);
+    follow_is(2, 2, 0);
 }
 
 /* Doubling rules: lengths 65535 and 65536, and sixty that come to nothing. */
@@ -931,12 +1004,14 @@ static void random_calls(int grammars) {
         if (below(3) == 0) dear();
         if (below(4) == 0) damage();
         call c = make((op)below(OPS));
+        /* visits of FOLLOW read any row, and in half of the cases the finished one */
+        if (c.op == FOLLOW_VISIT && below(2) && check_of(&g) == 0) fill_reached(&g, words[3]);
         for (int i = 0; i < 12; i++) {
             c.rule = (uint16_t)below(g.rules + 1u), c.to = (uint16_t)below(g.rules + 1u);
             c.token = (uint16_t)below((uint32_t)g.tokens + 1), c.prod = (uint16_t)below((uint32_t)g.prods + 1);
             c.mode = (uint16_t)(below(8) ? 1 + below(2) : below(4)), c.out_len = below(below(8) ? 60 : 100000);
             c.bytes_len = any_room(), c.version = (uint16_t)(below(8) ? 1 + below(2) : below(4));
-            size_t *len = &c.table_len[below(3)], right = *len;
+            size_t *len = &c.table_len[below(TABLES)], right = *len;
             if (below(12) == 0) *len = right + below(3) - (right > 0);
             run(&c);
             *len = right;
@@ -957,6 +1032,7 @@ int main(void) {
     g1();
     g2_to_g6();
     exports();
+    dead();
     lengths();
     bad_grammars();
     list_lengths();

@@ -15,9 +15,9 @@
  * or `version`, is cut to 16 bits before the call sees it: 65537 asks about rule 1. Check it before.
  *
  * Tables. A mark table (FIRST, FOLLOW) has R rows of (T+31)/32 words: token t of rule r is bit t%32
- * of word r*((T+31)/32) + t/32. EMPTY and PRODUCTIVE are one row of (R+31)/32 words: rule r is bit
- * r%32 of word r/32. To go through the marks that a fill left read the bits: a mark query checks
- * the whole grammar each time.
+ * of word r*((T+31)/32) + t/32. EMPTY, PRODUCTIVE and the reached row are one row of (R+31)/32
+ * words: rule r is bit r%32 of word r/32. To go through the marks that a fill left read the bits: a
+ * mark query checks the whole grammar each time.
  *
  * Spare bits, those of a row's last word behind its last mark: no visit or query reads or changes
  * them; clear and fill leave them zero.
@@ -27,8 +27,9 @@
  * ungrounded (its choice is circular) or has no cost.
  *
  * Stack. boltmarrow_min_sentence takes up to 110 KB: 208 bytes for each level of rules in rules, of
- * which there are at most 512. boltmarrow_has_path takes 12 KB, every other call at most 1 KB. No
- * call takes other memory than its stack and its lists.
+ * which there are at most 512. boltmarrow_has_path, boltmarrow_reached_fill and
+ * boltmarrow_follow_fill take 12 KB, every other call at most 1 KB. No call takes other memory than
+ * its stack and its lists.
  *
  * Refusals:
  *   1  R, T, P or N outside its limits (R 2..512, T 1..512, P 2..4096, N 1..16384)
@@ -119,7 +120,7 @@ boltmarrow_stretch boltmarrow_production(BOLTMARROW_GRAMMAR, boltmarrow_pidx pro
 boltmarrow_answer boltmarrow_mark(BOLTMARROW_GRAMMAR, const uint32_t *table, size_t table_len,
                                   boltmarrow_ridx rule, boltmarrow_tidx token);
 
-/* Whether a rule is marked in EMPTY or PRODUCTIVE. Refusals 1 to 7, 9. */
+/* Whether a rule is marked in EMPTY, PRODUCTIVE or the reached row. Refusals 1 to 7, 9. */
 boltmarrow_answer boltmarrow_rule_mark(BOLTMARROW_GRAMMAR, const uint32_t *table, size_t table_len,
                                        boltmarrow_ridx rule);
 
@@ -156,17 +157,27 @@ boltmarrow_answer boltmarrow_min_sentence_cost(BOLTMARROW_GRAMMAR, boltmarrow_ri
                                                uint32_t *productive, size_t productive_len,
                                                uint32_t *cost, size_t cost_len);
 
-/* FOLLOW, mode 1 (the crate) or 2 (corrected). A clear leaves rule 0 with eof; a visit reads FIRST
- * and EMPTY, which should be filled; a fill fills FIRST and EMPTY too. Refusals 1 to 7; visit 8 and
- * 11, fill 8 too. */
+/* The reached row: rule 0 and the rules that have a path from it, whatever was there. All other
+ * rules are dead: no row has them. Refusals 1 to 7. */
+boltmarrow_answer boltmarrow_reached_fill(BOLTMARROW_GRAMMAR, uint32_t *reached,
+                                          size_t reached_len);
+
+/* FOLLOW, mode 1 (the crate), in which all productions count, or 2 (corrected), in which those of
+ * reached rules do. A clear leaves rule 0 with eof. A visit reads FIRST and EMPTY, which should be
+ * filled; in mode 2 it reads the reached row too, which should be filled, and a production of a rule
+ * that the row does not mark changes nothing; in mode 1 the row is neither read nor changed. A fill
+ * fills the reached row, FIRST and EMPTY too, in both modes. Refusals 1 to 7; visit 8 and 11, fill 8
+ * too. 7 is for the reached row too, in both modes. */
 boltmarrow_answer boltmarrow_follow_clear(BOLTMARROW_GRAMMAR, uint32_t *follow, size_t follow_len);
 boltmarrow_answer boltmarrow_follow_visit(BOLTMARROW_GRAMMAR, uint16_t mode, boltmarrow_pidx prod,
                                           uint32_t *follow, size_t follow_len,
                                           const uint32_t *first, size_t first_len,
-                                          const uint32_t *empty, size_t empty_len);
+                                          const uint32_t *empty, size_t empty_len,
+                                          const uint32_t *reached, size_t reached_len);
 boltmarrow_answer boltmarrow_follow_fill(BOLTMARROW_GRAMMAR, uint16_t mode, uint32_t *follow,
                                          size_t follow_len, uint32_t *first, size_t first_len,
-                                         uint32_t *empty, size_t empty_len);
+                                         uint32_t *empty, size_t empty_len, uint32_t *reached,
+                                         size_t reached_len);
 
 /* Writes the cheapest sentence of a rule, each rule replaced by its first choice, to the front of
  * `out`; the answer is its length. Refusals 1 to 7, 9; then the three tables are filled, and 12 to

@@ -5,7 +5,7 @@
 //!     bench costs PLACE         ends once the Rust has the costs of the grammar at that place of the list
 //!
 //! Before a grammar is timed the three are held to each other: FIRST, EMPTY, FOLLOW, in the Rust only the crate's mode,
-//! and the costs, in the Rust only where it returns.
+//! and the costs, in the Rust only where it returns; the reached row, which the Rust has not, C and the library.
 mod clock;
 mod grammars;
 mod plain;
@@ -76,6 +76,7 @@ fn hold_plain(plain: &Plain, flat: &Grammar) {
     let [first, empty] = plain.firsts();
     let [one, two] = [Mode::Crate, Mode::Corrected].map(|mode| (plain.follows(mode as u32), flat.follows(mode)));
     let (firsts, costs, cost) = (flat.firsts(), plain.costs(), flat.costs());
+    let (row, reached) = (plain.reached(), flat.reached());
     for ridx in flat.iter_rules() {
         let r = usize::from(ridx);
         for tidx in flat.iter_tidxs() {
@@ -85,6 +86,10 @@ fn hold_plain(plain: &Plain, flat: &Grammar) {
             }
         }
         assert_eq!(firsts.is_epsilon_set(ridx), Ok(bit(&empty, 0, r)));
+        assert_eq!(reached.is_set(ridx), Ok(bit(&row, 0, r)));
+        for (plain, ours) in [&one, &two] {
+            assert_eq!(ours.reached().is_set(ridx), Ok(bit(&plain[3], 0, r)));
+        }
         assert_eq!(cost.cost(ridx), Ok(u16::try_from(costs[r]).ok()));
     }
 }
@@ -135,6 +140,7 @@ fn fills(place: usize, given: &Given) {
     let mut check = check_alone(flat);
     line(name, "check", None, &mut || keep(plain.check()), &mut check);
     line(name, "FIRST", Some(&mut || keep(grm.firsts())), &mut || keep(plain.firsts()), &mut || keep(flat.firsts()));
+    line(name, "reached rules", None, &mut || keep(plain.reached()), &mut || keep(flat.reached()));
     let [mut one, mut two] = [Mode::Crate, Mode::Corrected].map(|mode| move || keep(flat.follows(mode)));
     line(name, "FOLLOW, mode 1", Some(&mut || keep(grm.follows())), &mut || keep(plain.follows(1)), &mut one);
     line(name, "FOLLOW, mode 2", None, &mut || keep(plain.follows(2)), &mut two);

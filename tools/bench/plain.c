@@ -133,9 +133,41 @@ unsigned plain_first_fill(const struct plain_grammar *g, uint32_t *first, uint32
     return refused;
 }
 
-static int follow_step(const struct plain_grammar *g, int corrected, size_t p, uint32_t *follow, const uint32_t *first,
-                       const uint32_t *empty)
+/* Rule 0, and what the rules reached so far have in their productions: each rule is done once. */
+static void fill_reached(const struct plain_grammar *g, uint32_t *reached)
 {
+    uint16_t head[512], next[4096], todo[512];
+    size_t count = 0;
+    memset(head, 255, sizeof head);
+    for (size_t p = g->prods; p-- > 0;) {
+        next[p] = head[g->owners[p]];
+        head[g->owners[p]] = (uint16_t)p;
+    }
+    memset(reached, 0, words(g->rules) * sizeof *reached);
+    set(reached, 0);
+    todo[count++] = 0;
+    while (count > 0)
+        for (size_t p = head[todo[--count]]; p < g->prods; p = next[p])
+            for (size_t k = g->starts[p]; k < g->starts[p + 1]; k++) {
+                unsigned s = g->symbols[k];
+                if (s >= RULE && set(reached, s - RULE))
+                    todo[count++] = (uint16_t)(s - RULE);
+            }
+}
+
+unsigned plain_reached_fill(const struct plain_grammar *g, uint32_t *reached)
+{
+    unsigned refused = plain_check(g);
+    if (refused == 0)
+        fill_reached(g, reached);
+    return refused;
+}
+
+static int follow_step(const struct plain_grammar *g, int corrected, size_t p, uint32_t *follow, const uint32_t *first,
+                       const uint32_t *empty, const uint32_t *reached)
+{
+    if (corrected && !is_set(reached, g->owners[p]))
+        return 0;
     size_t width = words(g->tokens);
     uint32_t ahead[16];
     int new = 0, null = 1;
@@ -161,18 +193,20 @@ static int follow_step(const struct plain_grammar *g, int corrected, size_t p, u
     return new;
 }
 
-unsigned plain_follow_fill(const struct plain_grammar *g, unsigned mode, uint32_t *follow, uint32_t *first, uint32_t *empty)
+unsigned plain_follow_fill(const struct plain_grammar *g, unsigned mode, uint32_t *follow, uint32_t *first,
+                           uint32_t *empty, uint32_t *reached)
 {
     unsigned refused = plain_check(g);
     if (refused != 0)
         return refused;
+    fill_reached(g, reached);
     fill_first(g, first, empty);
     memset(follow, 0, g->rules * words(g->tokens) * sizeof *follow);
     set(follow, g->tokens - 1);
     for (int down = 0, changed = 1; changed; down = !down) {
         changed = 0;
         for (size_t i = 0; i < g->prods; i++)
-            changed |= follow_step(g, mode == 2, down ? g->prods - 1 - i : i, follow, first, empty);
+            changed |= follow_step(g, mode == 2, down ? g->prods - 1 - i : i, follow, first, empty, reached);
     }
     return 0;
 }

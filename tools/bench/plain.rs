@@ -17,7 +17,15 @@ struct CGrammar {
 unsafe extern "C" {
     fn plain_check(g: *const CGrammar) -> u32;
     fn plain_first_fill(g: *const CGrammar, first: *mut u32, empty: *mut u32) -> u32;
-    fn plain_follow_fill(g: *const CGrammar, mode: u32, follow: *mut u32, first: *mut u32, empty: *mut u32) -> u32;
+    fn plain_reached_fill(g: *const CGrammar, reached: *mut u32) -> u32;
+    fn plain_follow_fill(
+        g: *const CGrammar,
+        mode: u32,
+        follow: *mut u32,
+        first: *mut u32,
+        empty: *mut u32,
+        reached: *mut u32,
+    ) -> u32;
     fn plain_cost_fill(g: *const CGrammar, cost: *mut u32) -> u32;
 }
 
@@ -69,13 +77,21 @@ impl Plain {
         [first, empty]
     }
 
-    /// FOLLOW, FIRST and EMPTY.
-    pub fn follows(&self, mode: u32) -> [Vec<u32>; 3] {
-        let (mut follow, mut first, mut empty) = (self.marks(), self.marks(), self.row());
-        let [f, i, e] = [&mut follow, &mut first, &mut empty].map(|table| table.as_mut_ptr());
-        let refused = unsafe { plain_follow_fill(&self.lent(), mode, f, i, e) };
+    /// The reached row.
+    pub fn reached(&self) -> Vec<u32> {
+        let mut reached = self.row();
+        let refused = unsafe { plain_reached_fill(&self.lent(), reached.as_mut_ptr()) };
         assert_eq!(refused, 0);
-        [follow, first, empty]
+        reached
+    }
+
+    /// FOLLOW, FIRST, EMPTY and the reached row.
+    pub fn follows(&self, mode: u32) -> [Vec<u32>; 4] {
+        let (mut follow, mut first, mut empty, mut reached) = (self.marks(), self.marks(), self.row(), self.row());
+        let [f, i, e, r] = [&mut follow, &mut first, &mut empty, &mut reached].map(|table| table.as_mut_ptr());
+        let refused = unsafe { plain_follow_fill(&self.lent(), mode, f, i, e, r) };
+        assert_eq!(refused, 0);
+        [follow, first, empty, reached]
     }
 
     pub fn costs(&self) -> Vec<u32> {

@@ -1,7 +1,7 @@
 /* Asks the library about flat grammars: standard input has one a line, and standard output a line of JSON for each.
  * Both have the form of tools/oracle/oracle.rs, with these differences: "costs" has an outcome for each rule,
- * "corrected" is FOLLOW of mode 2, and an outcome is {"returned": [number..]} or {"refused": number}. A refused grammar
- * has the outcome of boltmarrow_check alone.
+ * "corrected" is FOLLOW of mode 2, "reached" the reached row, and an outcome is {"returned": [number..]} or
+ * {"refused": number}. A refused grammar has the outcome of boltmarrow_check alone.
  */
 #include <stdio.h>
 
@@ -13,7 +13,7 @@ static uint32_t rules, tokens, prods, length; /* R, T, P, N */
 static uint16_t owners[PRODS], starts[PRODS + 1], symbols[SYMBOLS];
 static uint8_t costs[TOKENS];
 static uint32_t first[RULES * TOKENS / 32], follow[RULES * TOKENS / 32];
-static uint32_t empty[RULES / 32], productive[RULES / 32], prices[RULES], lengths[RULES];
+static uint32_t empty[RULES / 32], reached[RULES / 32], productive[RULES / 32], prices[RULES], lengths[RULES];
 static uint16_t sentence[ROOM];
 
 #define GRAMMAR (uint16_t)rules, owners, prods, starts, prods + 1, symbols, length, costs, tokens
@@ -80,14 +80,14 @@ static void print_marks(const char *name, const uint32_t *table) {
 }
 
 static void print_follow(const char *name, uint16_t mode) {
-    boltmarrow_follow_fill(GRAMMAR, mode, follow, MARKS, first, MARKS, empty, ROW);
+    boltmarrow_follow_fill(GRAMMAR, mode, follow, MARKS, first, MARKS, empty, ROW, reached, ROW);
     print_marks(name, follow);
 }
 
-static void print_empty(void) {
-    printf("\"empty\":[");
+static void print_row(const char *name, const uint32_t *row) {
+    printf("\"%s\":[", name);
     for (uint16_t r = 0; r < rules; r++)
-        printf("%s%u", comma(r), boltmarrow_rule_mark(GRAMMAR, empty, ROW, RIDX(r)).value);
+        printf("%s%u", comma(r), boltmarrow_rule_mark(GRAMMAR, row, ROW, RIDX(r)).value);
     printf("],");
 }
 
@@ -153,9 +153,11 @@ static void answer(void) {
     printf("{");
     boltmarrow_first_fill(GRAMMAR, first, MARKS, empty, ROW);
     print_marks("first", first);
-    print_empty();
+    print_row("empty", empty);
     print_follow("follow", 1);
     print_follow("corrected", 2);
+    boltmarrow_reached_fill(GRAMMAR, reached, ROW);
+    print_row("reached", reached);
     print_paths();
     print_beyond();
     print_costs();

@@ -55,9 +55,10 @@ CALL(cost_clear, GRAMMAR, WORDS(4))
 CALL(cost_visit, GRAMMAR, PIDX(1), WORDS(4))
 CALL(cost_fill, GRAMMAR, WORDS(4))
 CALL(min_sentence_cost, GRAMMAR, RIDX(1), WORDS(4), WORDS(5))
+CALL(reached_fill, GRAMMAR, WORDS(4))
 CALL(follow_clear, GRAMMAR, WORDS(4))
-CALL(follow_visit, GRAMMAR, c->number[1], PIDX(2), WORDS(4), WORDS(5), WORDS(6))
-CALL(follow_fill, GRAMMAR, c->number[1], WORDS(4), WORDS(5), WORDS(6))
+CALL(follow_visit, GRAMMAR, c->number[1], PIDX(2), WORDS(4), WORDS(5), WORDS(6), WORDS(7))
+CALL(follow_fill, GRAMMAR, c->number[1], WORDS(4), WORDS(5), WORDS(6), WORDS(7))
 CALL(min_sentence, GRAMMAR, RIDX(1), WORDS(4), WORDS(5), WORDS(6), HALVES(7))
 CALL(write_blocks, GRAMMAR, c->number[1], BYTES(4))
 
@@ -93,9 +94,10 @@ static const struct {
     {cost_visit, "nhhhbnw"},
     {cost_fill, "nhhhbw"},
     {min_sentence_cost, "nhhhbnww"},
+    {reached_fill, "nhhhbw"},
     {follow_clear, "nhhhbw"},
-    {follow_visit, "nhhhbnnwww"},
-    {follow_fill, "nhhhbnwww"},
+    {follow_visit, "nhhhbnnwwww"},
+    {follow_fill, "nhhhbnwwww"},
     {min_sentence, "nhhhbnwwwh"},
     {write_blocks, "nhhhbnb"},
     {read_blocks, "bhhhb"},

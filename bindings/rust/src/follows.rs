@@ -1,17 +1,20 @@
 use crate::sys;
 use crate::table::{done, mark, tokens};
-use crate::{FirstTable, Firsts, Grammar, PIdx, RIdx, Refusal, TIdx};
+use crate::{FirstTable, Firsts, Grammar, PIdx, RIdx, Reached, Refusal, TIdx};
 
-/// How FOLLOW looks at what comes after a rule.
+/// How FOLLOW looks at what comes after a rule, and in which productions.
 #[derive(Clone, Copy, Debug, Eq, Hash, PartialEq)]
 pub enum Mode {
-    /// As cfgrammar does: at the next symbol only, which loses tokens where that symbol can vanish.
+    /// As cfgrammar does: at the next symbol only, which loses tokens where that symbol can vanish; in all productions,
+    /// which adds tokens that only a dead rule puts there.
     Crate = 1,
-    /// At all that comes after it, as far as symbols can vanish.
+    /// At all that comes after it, as far as symbols can vanish, in the productions of reached rules. So a token is
+    /// there exactly if it stands after the rule in some form that the start, with eof behind it, derives.
     Corrected = 2,
 }
 
-/// FOLLOW, whole: as its fill left it, with the FIRST and EMPTY that it was made from. It can be asked and not changed.
+/// FOLLOW, whole: as its fill left it, with the FIRST, EMPTY and reached row that it was made from. It can be asked and
+/// not changed.
 #[derive(Clone, Debug)]
 pub struct Follows<'g>(pub(crate) FollowTable<'g>);
 
@@ -38,28 +41,38 @@ impl<'g> Follows<'g> {
     pub fn firsts(&self) -> &Firsts<'g> {
         self.0.firsts()
     }
+
+    /// The reached row that it was made from, in the corrected mode; the crate's mode has it beside.
+    pub fn reached(&self) -> &Reached<'g> {
+        self.0.reached()
+    }
 }
 
-/// FOLLOW, filled by single visits in any order, all in one mode, which read whole FIRST and EMPTY tables. Each mark
-/// that it holds is true; it is whole when no visit changes it.
+/// FOLLOW, filled by single visits in any order, all in one mode, which read whole FIRST and EMPTY tables and, in the
+/// corrected mode, the whole reached row: there a visit of a dead rule's production changes nothing. Each mark that it
+/// holds is true; it is whole when no visit changes it.
 #[derive(Clone, Debug)]
 pub struct FollowTable<'g> {
     mode: Mode,
     pub(crate) follow: Vec<u32>,
     firsts: Firsts<'g>,
+    reached: Reached<'g>,
 }
 
 impl<'g> FollowTable<'g> {
     pub(crate) fn new(grammar: &'g Grammar, mode: Mode) -> Self {
-        let mut table = FollowTable { mode, follow: grammar.marks(), firsts: grammar.firsts() };
+        let (follow, firsts, reached) = (grammar.marks(), grammar.firsts(), grammar.reached());
+        let mut table = FollowTable { mode, follow, firsts, reached };
         table.clear();
         table
     }
 
     pub(crate) fn filled(grammar: &'g Grammar, mode: Mode) -> Follows<'g> {
         let (mut follow, mut firsts) = (grammar.marks(), FirstTable::unfilled(grammar));
-        done(sys::follow_fill(grammar.flat(), mode as u16, &mut follow, &mut firsts.first, &mut firsts.empty));
-        Follows(FollowTable { mode, follow, firsts: Firsts(firsts) })
+        let mut reached = Reached::unfilled(grammar);
+        let (first, empty) = (&mut firsts.first, &mut firsts.empty);
+        done(sys::follow_fill(grammar.flat(), mode as u16, &mut follow, first, empty, &mut reached.reached));
+        Follows(FollowTable { mode, follow, firsts: Firsts(firsts), reached })
     }
 
     fn grammar(&self) -> &'g Grammar {
@@ -77,8 +90,8 @@ impl<'g> FollowTable<'g> {
     ///
     /// Refusal 11 for a production that the grammar does not have.
     pub fn visit(&mut self, pidx: PIdx) -> Result<bool, Refusal> {
-        let FirstTable { grammar, first, empty } = &self.firsts.0;
-        sys::follow_visit(grammar.flat(), self.mode as u16, pidx.0, &mut self.follow, first, empty).yes()
+        let (FirstTable { grammar, first, empty }, reached) = (&self.firsts.0, &self.reached.reached);
+        sys::follow_visit(grammar.flat(), self.mode as u16, pidx.0, &mut self.follow, first, empty, reached).yes()
     }
 
     /// Whether the token is known to follow the rule.
@@ -102,5 +115,10 @@ impl<'g> FollowTable<'g> {
     /// The FIRST and EMPTY that it reads.
     pub fn firsts(&self) -> &Firsts<'g> {
         &self.firsts
+    }
+
+    /// The reached row that it reads in the corrected mode; the crate's mode reads none.
+    pub fn reached(&self) -> &Reached<'g> {
+        &self.reached
     }
 }

@@ -3,8 +3,8 @@ use std::io;
 use crate::sys::{self, Flat};
 use crate::table::words;
 use crate::{
-    CostTable, Costs, FirstTable, Firsts, FollowTable, Follows, Mode, PIdx, Productive, ProductiveTable, RIdx, Refusal,
-    SIdx, SentenceGenerator, Symbol, TIdx, Version,
+    CostTable, Costs, FirstTable, Firsts, FollowTable, Follows, Mode, PIdx, Productive, ProductiveTable, RIdx, Reached,
+    Refusal, SIdx, SentenceGenerator, Symbol, TIdx, Version,
 };
 
 /// The bytes of the largest block file: 98 blocks.
@@ -310,6 +310,26 @@ impl Grammar {
         sys::has_path(self.flat(), from.0, to.0).yes()
     }
 
+    /// The reached row: which rules are the start or have a path from it. The others are dead.
+    ///
+    /// ```
+    /// use boltmarrow::{Grammar, Mode, RIdx, TIdx};
+    ///
+    /// // start: S; S: A; A: a; U: A z, where U was left in and is used nowhere. Rules are 1 S, 2 A, 3 U, tokens 0 a,
+    /// // 1 z, 2 eof.
+    /// let (owners, starts) = (vec![0, 1, 2, 3], vec![0, 1, 2, 3, 5]);
+    /// let grm = Grammar::new(4, owners, starts, vec![32769, 32770, 0, 32770, 1], vec![1, 1, 1])?;
+    /// let (a, u, z) = (RIdx(2), RIdx(3), TIdx(1));
+    /// assert!(grm.reached().is_set(a)? && !grm.reached().is_set(u)?);
+    /// // So no row has z after A. The crate's mode has it.
+    /// assert!(!grm.follows(Mode::Corrected).is_set(a, z)?);
+    /// assert!(grm.follows(Mode::Crate).is_set(a, z)?);
+    /// # Ok::<(), boltmarrow::Refusal>(())
+    /// ```
+    pub fn reached(&self) -> Reached<'_> {
+        Reached::filled(self)
+    }
+
     /// FIRST and EMPTY.
     pub fn firsts(&self) -> Firsts<'_> {
         FirstTable::filled(self)
@@ -325,7 +345,7 @@ impl Grammar {
         FollowTable::filled(self, mode)
     }
 
-    /// FOLLOW, cleared, for single visits; with FIRST and EMPTY, filled, which the visits read.
+    /// FOLLOW, cleared, for single visits; with FIRST, EMPTY and the reached row, filled, which the visits read.
     pub fn follow_table(&self, mode: Mode) -> FollowTable<'_> {
         FollowTable::new(self, mode)
     }

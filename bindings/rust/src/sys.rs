@@ -120,9 +120,10 @@ exports! {
     boltmarrow_cost_visit = cost_visit(prod; cost: u32;;) -> Answer;
     boltmarrow_cost_fill = cost_fill(; cost: u32;;) -> Answer;
     boltmarrow_min_sentence_cost = min_sentence_cost(rule; productive: u32, cost: u32;;) -> Answer;
+    boltmarrow_reached_fill = reached_fill(; reached: u32;;) -> Answer;
     boltmarrow_follow_clear = follow_clear(; follow: u32;;) -> Answer;
-    boltmarrow_follow_visit = follow_visit(mode prod; follow: u32; first: u32, empty: u32;) -> Answer;
-    boltmarrow_follow_fill = follow_fill(mode; follow: u32, first: u32, empty: u32;;) -> Answer;
+    boltmarrow_follow_visit = follow_visit(mode prod; follow: u32; first: u32, empty: u32, reached: u32;) -> Answer;
+    boltmarrow_follow_fill = follow_fill(mode; follow: u32, first: u32, empty: u32, reached: u32;;) -> Answer;
     boltmarrow_min_sentence = min_sentence(rule; productive: u32, cost: u32, lengths: u32, out: u16;;) -> Answer;
     boltmarrow_write_blocks = write_blocks(version; out: u8;;) -> Answer;
 }

@@ -6,7 +6,7 @@ use std::path::Path;
 use crate::costs::ProductiveTable;
 use crate::follows::FollowTable;
 use crate::sys;
-use crate::{FirstTable, Grammar, Mode, PIdx, RIdx, Refusal, SIdx, Symbol, TIdx};
+use crate::{FirstTable, Grammar, Mode, PIdx, RIdx, Reached, Refusal, SIdx, Symbol, TIdx};
 
 /// Numbers that are no rule's, token's or production's where there are so many.
 fn outside(len: u16) -> [u16; 4] {
@@ -50,7 +50,9 @@ fn holds_follows(grm: &Grammar, table: &FollowTable) {
 
 /// The tables as their fills leave them, each asked as a whole table and as the one inside.
 fn holds_filled(grm: &Grammar) {
-    let (firsts, productive) = (grm.firsts(), grm.productive());
+    let (firsts, productive, reached) = (grm.firsts(), grm.productive(), grm.reached());
+    holds_rule_marks(grm, &reached.reached, |ridx| reached.is_set(ridx));
+    holds_reached(grm, &reached);
     holds_firsts(&firsts.0);
     holds_marks(grm, &firsts.0.first, |ridx, tidx| firsts.is_set(ridx, tidx));
     holds_rule_marks(grm, &firsts.0.empty, |ridx| firsts.is_epsilon_set(ridx));
@@ -60,6 +62,16 @@ fn holds_filled(grm: &Grammar) {
         let follows = grm.follows(mode);
         holds_follows(grm, &follows.0);
         holds_marks(grm, &follows.0.follow, |ridx, tidx| follows.is_set(ridx, tidx));
+        assert_eq!(follows.reached().reached, reached.reached);
+        assert_eq!(grm.follow_table(mode).reached().reached, reached.reached);
+    }
+}
+
+/// A rule is reached if it is the start or has a path from it.
+fn holds_reached(grm: &Grammar, reached: &Reached) {
+    for rule in asked(grm.rules_len().0) {
+        let path = sys::has_path(grm.flat(), 0, rule).yes();
+        assert_eq!(reached.is_set(RIdx(rule)), path.map(|path| path || rule == 0), "rule {rule}");
     }
 }
 
@@ -178,10 +190,12 @@ fn any_words_are_read_as_the_library_answers() {
         for tokens in [1].into_iter().chain(COUNTS) {
             let grm = random.grammar(rules, tokens);
             let (mut firsts, mut productive) = (grm.first_table(), grm.productive_table());
-            let mut follows = grm.follow_table(Mode::Corrected);
+            let (mut follows, mut reached) = (grm.follow_table(Mode::Corrected), grm.reached());
             for table in [&mut firsts.first, &mut firsts.empty, &mut productive.productive, &mut follows.follow] {
                 random.words(table);
             }
+            random.words(&mut reached.reached);
+            holds_rule_marks(&grm, &reached.reached, |ridx| reached.is_set(ridx));
             holds_firsts(&firsts);
             holds_productive(&productive);
             holds_follows(&grm, &follows);

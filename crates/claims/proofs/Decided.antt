@@ -11,14 +11,14 @@ use lib.Dec.{eqb, leb}
 use lib.ListN.{length, length-replicate}
 use borrow.Author.Tests.{eqb-true, leb-true, eq-eqb, not-true}
 use Rattle.theory.specs.Definitions.{Cost}
-use Rattle.theory.specs.Follow.{Mode}
-use Rattle.theory.specs.Grammar.{tok, rul, Form, Grammar}
+use Rattle.theory.specs.Follow.{Mode, crate, corrected}
+use Rattle.theory.specs.Grammar.{rul, Grammar}
 use Rattle.theory.specs.Levels.{Chosen, within}
 use Rattle.theory.specs.Search.{Chain, one, link}
 use Rattle.theory.specs.Sentences.{Grounded, Expands}
 use Rattle.theory.specs.Rounds.{run}
-use Rattle.theory.specs.Visits.{firstVisit, firstCleared}
-use Rattle.theory.specs.Tables.{Proper, FirstExact, FollowExact, ProductiveExact, CostExact}
+use Rattle.theory.specs.Visits.{firstVisit, firstCleared, among}
+use Rattle.theory.specs.Tables.{Proper, FirstExact, ReachedExact, ReachedFor, FollowExact, ProductiveExact, CostExact}
 use Rattle.theory.proofs.Bools.{and-split, or-split, or-left, or-right, same, same-is}
 use Rattle.theory.proofs.Choices.{choices-chosen}
 use Rattle.theory.proofs.Cost.{costs-one}
@@ -28,7 +28,9 @@ use Rattle.theory.proofs.Follow.{follow-any-order}
 use Rattle.theory.proofs.Levels.{grounded-levels, within-expands}
 use Rattle.theory.proofs.Paths.{Uses, path-chain}
 use Rattle.theory.proofs.Productive.{productive-any-order}
+use Rattle.theory.proofs.Reached.{among-mem, mem-among, reached-any-order}
 use Rattle.theory.proofs.Rounds.{upto, upto-round, all-rounds, settled-exact}
+use Rattle.theory.proofs.Standing.{exact-stands}
 use Rattle.source.specs.Costs.{start}
 use Rattle.source.specs.Sentence as Sentence
 use Rattle.source.proofs.Running.{costs-return, stuck-never, sentence-return}
@@ -38,8 +40,8 @@ use Rattle.grammar.specs.Production.{checkOf}
 use Rattle.grammar.specs.Well.{WellFormed}
 use Rattle.grammar.proofs.Denoted.{proper}
 use Rattle.grammar.proofs.Well.{well}
-use Rattle.claims.specs.Claims.{Claim, firstIs, followIs, marksAre, costIs, noSentence, circular, sentenceIs, path, noPath, sourceNever, sourceGives, grammarOf, Says, Means, AllMean}
-use Rattle.claims.proofs.Tests.{isAnswer, many, firstFilled, followFilled, productiveFilled, costFilled, chosen, holds, sameList, agree, within-form, uses, leads, unused, never, costsGiven, sentenceGiven, so, looked, test, tests}
+use Rattle.claims.specs.Claims.{Claim, firstIs, followIs, marksAre, costIs, noSentence, circular, sentenceIs, path, noPath, reachedAre, standsAre, sourceNever, sourceGives, grammarOf, Says, Means, AllMean}
+use Rattle.claims.proofs.Tests.{isAnswer, many, firstFilled, reachedFilled, followFilled, productiveFilled, costFilled, chosen, holds, sameList, agree, uses, leads, unused, never, costsGiven, sentenceGiven, so, looked, test, tests}
 
 -- lookups
 agree-at : (n : ℕ) (f : ℕ → Bool) (ts : List ℕ) → agree n f ts ≡ true → (t : ℕ) → t < n → f t ≡ holds t ts
@@ -71,29 +73,13 @@ list-same (x ∷ xs) [] e = absurd (false≢true e)
 list-same (x ∷ xs) (y ∷ ys) e = let s = and-split (eqb x y) _ e in ap₂ _∷_ (eqb-true x y (s .0)) (list-same xs ys (s .1))
 
 -- paths
-form-holds : (b : ℕ) (α : Form) → within-form b α ≡ true → List·Memᴰ (rul b) α
-form-holds b [] e = absurd (false≢true e)
-form-holds b (tok t ∷ α) e = List·Memᴰ·tail (form-holds b α e)
-form-holds b (rul r ∷ α) e =
-    let ih : within-form b α ≡ true → List·Memᴰ (rul b) α = form-holds b α in
-    elim (or-split (eqb b r) _ e) [ inl k ↦ List·Memᴰ·head (ap rul (eqb-true b r k)) | inr k ↦ List·Memᴰ·tail (ih k) ]
-
-holds-form : (b : ℕ) (α : Form) → List·Memᴰ (rul b) α → within-form b α ≡ true
-holds-form b [] m = absurd (List·Memᴰ·not-nil m)
-holds-form b (tok t ∷ α) m =
-    let ih : List·Memᴰ (rul b) α → within-form b α ≡ true = holds-form b α in
-    elim (List·Memᴰ·cases-cons m) [ inl d ↦ let z : _≡_ {A = ℕ} 0 1 = cc in absurd (omega arith) | inr n ↦ ih n ]
-holds-form b (rul r ∷ α) m =
-    let ih : List·Memᴰ (rul b) α → within-form b α ≡ true = holds-form b α in
-    elim (List·Memᴰ·cases-cons m) [ inl d ↦ let i : b ≡ r = cc in or-left _ (eq-eqb b r i) | inr n ↦ or-right (eqb b r) (ih n) ]
-
 module _ (d : Grammar) where
   uses-is : (n : ℕ) → n ≤ d .prods → (a b : ℕ) → uses d n a b ≡ true → Uses d a b
   uses-is zero l a b e = absurd (false≢true e)
   uses-is (suc p) l a b e =
       let ih : uses d p a b ≡ true → Uses d a b = uses-is p (omega arith) a b in
-      elim (or-split (eqb (d .owner p) a && within-form b (d .body p)) _ e) [
-        | inl k ↦ let s = and-split (eqb (d .owner p) a) _ k in record { prod = p; isProd = l; owns = eqb-true _ a (s .0); holds = form-holds b (d .body p) (s .1) }
+      elim (or-split (eqb (d .owner p) a && among (d .body p) b) _ e) [
+        | inl k ↦ let s = and-split (eqb (d .owner p) a) _ k in record { prod = p; isProd = l; owns = eqb-true _ a (s .0); holds = among-mem (d .body p) b (s .1) }
         | inr k ↦ ih k
       ]
 
@@ -104,10 +90,10 @@ module _ (d : Grammar) where
   unused-is : (n b : ℕ) → unused d n b ≡ true → (p : ℕ) → p < n → List·Memᴰ (rul b) (d .body p) → ⊥
   unused-is zero b e p lt m = not-suc-le-zero lt
   unused-is (suc n) b e p lt m =
-      let s = and-split (not (within-form b (d .body n))) _ e in
+      let s = and-split (not (among (d .body n) b)) _ e in
       let ih : p < n → ⊥ = λ l. unused-is n b (s .1) p l m in
       elim (eq-or-lt-of-le (le-of-suc-le-suc lt)) [
-        | inl q ↦ true≢false (sym (holds-form b (d .body n) (subst (λ z. List·Memᴰ (rul b) (d .body z)) q m)) ∙ not-true _ (s .0))
+        | inl q ↦ true≢false (sym (mem-among (d .body n) b (subst (λ z. List·Memᴰ (rul b) (d .body z)) q m)) ∙ not-true _ (s .0))
         | inr l ↦ ih l
       ]
 
@@ -123,8 +109,15 @@ module _ (d : Grammar) (ok : Proper d) where
   first-right : FirstExact d (firstFilled d)
   first-right = settled-exact (first-any-order d ok) (many d (d .rules * d .tokens)) (all-rounds (d .rules * d .tokens) (upto (d .prods)) (upto-round (d .prods))) (enough (d .rules * d .tokens))
 
+  reached-right : ReachedExact d (reachedFilled d)
+  reached-right = settled-exact (reached-any-order d ok) (many d (d .rules)) (all-rounds (d .rules) (upto (d .prods)) (upto-round (d .prods))) (enough (d .rules))
+
+  reached-for : (mode : Mode) → ReachedFor d mode (reachedFilled d)
+  reached-for crate = tt
+  reached-for corrected = reached-right
+
   follow-right : (mode : Mode) → FollowExact d mode (followFilled d mode)
-  follow-right mode = settled-exact (follow-any-order d ok mode (firstFilled d) first-right) (many d (d .rules * d .tokens)) (all-rounds (d .rules * d .tokens) (upto (d .prods)) (upto-round (d .prods))) (enough (d .rules * d .tokens))
+  follow-right mode = settled-exact (follow-any-order d ok mode (firstFilled d) first-right (reachedFilled d) (reached-for mode)) (many d (d .rules * d .tokens)) (all-rounds (d .rules * d .tokens) (upto (d .prods)) (upto-round (d .prods))) (enough (d .rules * d .tokens))
 
   productive-right : ProductiveExact d (productiveFilled d)
   productive-right = settled-exact (productive-any-order d ok) (many d (d .rules)) (all-rounds (d .rules) (upto (d .prods)) (upto-round (d .prods))) (enough (d .rules))
@@ -170,6 +163,8 @@ says (sentenceIs g r w) ok e =
     )
 says (path g a by b) ok e = path-chain .1 (leads-is (denoted g) a by b e)
 says (noPath g a b) ok e = λ p. unused-chain (denoted g) b e (path-chain .0 p)
+says (reachedAre g rs) ok e = λ r l. set-is _ r rs (reached-right (denoted g) ok r) (agree-at (g .rules) _ rs e r l)
+says (standsAre g r ts) ok e = λ t l. set-is _ t ts (exact-stands (denoted g) (followFilled (denoted g) corrected) (follow-right (denoted g) ok corrected) r t) (agree-at (length (g .costs)) _ ts e t l)
 says (sourceNever g) ok e = λ c x. stuck-never (denoted g) (price g) 32 start (so-some (never g) _ e .1) x
 says (sourceGives g r n w) ok e =
     let c = so-some (costsGiven g) _ e in

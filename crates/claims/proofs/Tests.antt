@@ -5,11 +5,11 @@ use mathlib.Core.Option.{Option, none, some}
 use Prim.Native.Nat.{ℕ, zero, suc, _*_}
 use lib.Dec.{eqb, leb}
 use lib.ListN.{length, replicate}
-use Rattle.theory.specs.Follow.{Mode}
-use Rattle.theory.specs.Grammar.{tok, rul, Form, Grammar}
+use Rattle.theory.specs.Follow.{Mode, corrected}
+use Rattle.theory.specs.Grammar.{Grammar}
 use Rattle.theory.specs.Levels.{Choices, choicesBelow, within, expanded}
 use Rattle.theory.specs.Rounds.{run, rounds}
-use Rattle.theory.specs.Visits.{Table, Row, Costs, Marks, firstVisit, firstCleared, followVisit, followCleared, productiveVisit, productiveCleared, costVisit, costCleared}
+use Rattle.theory.specs.Visits.{Table, Row, Costs, Marks, firstVisit, firstCleared, followVisit, followCleared, among, reachedVisit, reachedBegun, productiveVisit, productiveCleared, costVisit, costCleared}
 use Rattle.theory.proofs.Bools.{same}
 use Rattle.theory.proofs.Rounds.{upto}
 use Rattle.source.specs.Costs.{start}
@@ -17,7 +17,7 @@ use Rattle.source.proofs.Running.{stuckIn, costsIn, sentenceIn}
 use Rattle.grammar.specs.Flat.{Flat, denoted, price}
 use Rattle.grammar.specs.Outcome.{Outcome, answers, refused}
 use Rattle.grammar.specs.Production.{checkOf}
-use Rattle.claims.specs.Claims.{Claim, firstIs, followIs, marksAre, costIs, noSentence, circular, sentenceIs, path, noPath, sourceNever, sourceGives, grammarOf}
+use Rattle.claims.specs.Claims.{Claim, firstIs, followIs, marksAre, costIs, noSentence, circular, sentenceIs, path, noPath, reachedAre, standsAre, sourceNever, sourceGives, grammarOf}
 
 abbrev pub isAnswer : {A : Type 0} → Outcome A → Bool
 isAnswer (answers x) = true
@@ -30,8 +30,11 @@ many d n = replicate n (upto (d .prods))
 abbrev pub firstFilled : Grammar → Marks
 firstFilled d = rounds (firstVisit d) (many d (d .rules * d .tokens)) firstCleared
 
+abbrev pub reachedFilled : Grammar → Row
+reachedFilled d = rounds (reachedVisit d) (many d (d .rules)) reachedBegun
+
 abbrev pub followFilled : Grammar → Mode → Table
-followFilled d mode = rounds (followVisit d mode (firstFilled d)) (many d (d .rules * d .tokens)) (followCleared d)
+followFilled d mode = rounds (followVisit d mode (firstFilled d) (reachedFilled d)) (many d (d .rules * d .tokens)) (followCleared d)
 
 abbrev pub productiveFilled : Grammar → Row
 productiveFilled d = rounds (productiveVisit d) (many d (d .rules)) productiveCleared
@@ -58,15 +61,10 @@ abbrev pub agree : ℕ → (ℕ → Bool) → List ℕ → Bool
 agree zero f ts = true
 agree (suc n) f ts = same (f n) (holds n ts) && agree n f ts
 
--- a rule stands in a form; a production of a holds b; each of the rules leads to the next
-abbrev pub within-form : ℕ → Form → Bool
-within-form b [] = false
-within-form b (tok t ∷ α) = within-form b α
-within-form b (rul r ∷ α) = eqb b r || within-form b α
-
+-- a production of a holds b; each of the rules leads to the next
 abbrev pub uses : Grammar → ℕ → (a b : ℕ) → Bool
 uses d zero a b = false
-uses d (suc p) a b = (eqb (d .owner p) a && within-form b (d .body p)) || uses d p a b
+uses d (suc p) a b = (eqb (d .owner p) a && among (d .body p) b) || uses d p a b
 
 abbrev pub leads : Grammar → (a : ℕ) → List ℕ → (b : ℕ) → Bool
 leads d a [] b = uses d (d .prods) a b
@@ -75,7 +73,7 @@ leads d a (c ∷ by) b = uses d (d .prods) a c && leads d c by b
 -- no production holds b
 abbrev pub unused : Grammar → ℕ → (b : ℕ) → Bool
 unused d zero b = true
-unused d (suc p) b = not (within-form b (d .body p)) && unused d p b
+unused d (suc p) b = not (among (d .body p) b) && unused d p b
 
 -- what the source comes to in at most 32 turns: no end, costs, a sentence
 abbrev pub never : Flat → Option (Unit {0})
@@ -102,6 +100,8 @@ looked (circular g r) = leb (costFilled (denoted g) (price g) r) 65535 && not (w
 looked (sentenceIs g r w) = within (denoted g) (chosen (denoted g) (price g)) (g .rules) r && sameList (expanded (denoted g) (chosen (denoted g) (price g)) (g .rules) r) w
 looked (path g a by b) = leads (denoted g) a by b
 looked (noPath g a b) = unused (denoted g) (denoted g .prods) b
+looked (reachedAre g rs) = agree (g .rules) (reachedFilled (denoted g)) rs
+looked (standsAre g r ts) = agree (length (g .costs)) (λ t. followFilled (denoted g) corrected r t) ts
 looked (sourceNever g) = so (never g) (λ u. true)
 looked (sourceGives g r n w) = so (costsGiven g) (λ c. eqb (c r) n && so (sentenceGiven g c r) (λ v. sameList v w))
 

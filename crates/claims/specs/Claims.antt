@@ -5,8 +5,8 @@ use mathlib.Core.Logic.{_↔_}
 use mathlib.Core.Path.{_≡_}
 use Prim.Native.Nat.{ℕ, _≤_, _<_}
 use lib.ListN.{length}
-use Rattle.theory.specs.Definitions.{First, Productive, Cost, Path}
-use Rattle.theory.specs.Follow.{Mode, crate, corrected, Follow}
+use Rattle.theory.specs.Definitions.{First, Productive, Cost, Path, Reached}
+use Rattle.theory.specs.Follow.{Mode, crate, corrected, Follow, Stands}
 use Rattle.theory.specs.Grammar.{rul}
 use Rattle.theory.specs.Rounds.{run}
 use Rattle.theory.specs.Sentences.{Grounded, Expands}
@@ -16,7 +16,7 @@ use Rattle.source.specs.Costs.{start, Returns}
 use Rattle.source.specs.Sentence as Sentence
 use Rattle.grammar.specs.Flat.{Flat, denoted, price}
 use Rattle.grammar.specs.Well.{WellFormed}
-use Rattle.claims.specs.Grammars.{g1, g2, g3, g4, g6, exports}
+use Rattle.claims.specs.Grammars.{g1, g2, g3, g4, g6, dead, exports}
 
 -- a set is given by its tokens; `by` names the rules between, as a hint to the test
 pub data Claim : Type 0 where
@@ -29,6 +29,8 @@ pub data Claim : Type 0 where
   sentenceIs : Flat → (r : ℕ) → (w : List ℕ) → Claim
   path : Flat → (a : ℕ) → (by : List ℕ) → (b : ℕ) → Claim
   noPath : Flat → (a b : ℕ) → Claim
+  reachedAre : Flat → (rules : List ℕ) → Claim
+  standsAre : Flat → (r : ℕ) → (tokens : List ℕ) → Claim
   sourceNever : Flat → Claim
   sourceGives : Flat → (r n : ℕ) → (w : List ℕ) → Claim
 
@@ -43,6 +45,8 @@ grammarOf (circular g r) = g
 grammarOf (sentenceIs g r w) = g
 grammarOf (path g a by b) = g
 grammarOf (noPath g a b) = g
+grammarOf (reachedAre g rs) = g
+grammarOf (standsAre g r ts) = g
 grammarOf (sourceNever g) = g
 grammarOf (sourceGives g r n w) = g
 
@@ -65,6 +69,10 @@ Says (sentenceIs g r w) = (c : Costs) × CostExact (denoted g) (price g) c × Ex
 -- a path from a to b, and none
 Says (path g a by b) = Path (denoted g) a b
 Says (noPath g a b) = Path (denoted g) a b → ⊥
+-- the reached rules are these
+Says (reachedAre g rs) = (r : ℕ) → r < g .rules → Reached (denoted g) r ↔ List·Memᴰ r rs
+-- the tokens t for which r t stands in a form derived from `start eof` are these
+Says (standsAre g r ts) = (t : ℕ) → t < length (g .costs) → Stands (denoted g) r t ↔ List·Memᴰ t ts
 -- the Rust's `rule_min_costs` never returns
 Says (sourceNever g) = (c : Costs) → Returns (denoted g) (price g) start c → ⊥
 -- the Rust's `rule_min_costs` returns, with n for r, and its `min_sentence` of r returns w
@@ -106,10 +114,18 @@ starred =
 abbrev pub repeats : List Claim
 repeats = sourceGives g1 0 1 (0 ∷ 0 ∷ []) ∷ []
 
--- of the change requests: L7, both exports are followed by eof, and the start has the cheaper one's sentence
+-- of the change requests: L2, z stands after A in mode 1 and not in mode 2; L7, both exports are followed by eof, and the start has the cheaper one's sentence
 abbrev pub requested : List Claim
 requested =
-    firstIs exports 0 (0 ∷ [])
+    reachedAre dead (0 ∷ 1 ∷ 2 ∷ [])
+    ∷ followIs dead crate 2 (1 ∷ 2 ∷ [])
+    ∷ followIs dead corrected 2 (2 ∷ [])
+    ∷ standsAre dead 2 (2 ∷ [])
+    ∷ followIs dead corrected 3 []
+    ∷ standsAre g2 2 (1 ∷ 2 ∷ [])
+    ∷ reachedAre exports (0 ∷ 1 ∷ 2 ∷ [])
+    ∷ standsAre exports 2 (2 ∷ [])
+    ∷ firstIs exports 0 (0 ∷ [])
     ∷ followIs exports crate 1 (2 ∷ [])
     ∷ followIs exports crate 2 (2 ∷ [])
     ∷ followIs exports corrected 1 (2 ∷ [])

@@ -22,6 +22,10 @@ g4 = flat 2 (0 ∷ 1 ∷ []) (0 ∷ 1 ∷ 3 ∷ []) (32769 ∷ 32769 ∷ 0 ∷ [
 abbrev pub g6 : Flat
 g6 = flat 2 (0 ∷ 1 ∷ 1 ∷ []) (0 ∷ 1 ∷ 3 ∷ 4 ∷ []) (32769 ∷ 0 ∷ 32769 ∷ 1 ∷ []) (1 ∷ 1 ∷ 1 ∷ [])
 
+-- request L2's: S: A; A: a; and a dead rule U: A z. Rules 1 S, 2 A, 3 U; tokens 0 a, 1 z
+abbrev pub dead : Flat
+dead = flat 4 (0 ∷ 1 ∷ 2 ∷ 3 ∷ []) (0 ∷ 1 ∷ 2 ∷ 3 ∷ 5 ∷ []) (32769 ∷ 32770 ∷ 0 ∷ 32770 ∷ 1 ∷ []) (1 ∷ 1 ∷ 1 ∷ [])
+
 -- request L7's, two exports D and W: D: a; W: a b. Rules 1 D, 2 W; tokens 0 a, 1 b
 abbrev pub exports : Flat
 exports = flat 3 (0 ∷ 1 ∷ 2 ∷ 0 ∷ []) (0 ∷ 1 ∷ 2 ∷ 4 ∷ 5 ∷ []) (32769 ∷ 0 ∷ 0 ∷ 1 ∷ 32770 ∷ []) (1 ∷ 1 ∷ 1 ∷ [])

@@ -18,7 +18,7 @@ use Rattle.rows.proofs.Row.{row-mark}
 use Rattle.tables.specs.Sizes.{words}
 use Rattle.firsts.specs.Lent.{marksOf, lent as firsts}
 use Rattle.follows.specs.Calls.{Full, Defined as FollowDefined}
-use Rattle.follows.specs.Lent.{lent}
+use Rattle.follows.specs.Lent.{reads, lent}
 use Rattle.costs.specs.Defined.{ProductiveDefined, CostDefined}
 use Rattle.costs.proofs.Summing.{entry}
 use Rattle.lines.specs.Text.{members}
@@ -117,10 +117,10 @@ module _ (g : Flat) (l : Tables) (d : Defined g l) (r : ℕ) (lr : r < g .rules)
   }
 
 -- the tables that the fills leave, FOLLOW's in mode 2
-pub fills-define : (g : Flat) (empty first follow productive cost : List ℕ) → Full g 2 (lent follow (firsts first empty)) → ProductiveDefined g productive → CostDefined g cost → Defined g (tables empty first follow productive cost)
-fills-define g empty first follow productive cost f p c = record {
-  read = f .read;
-  follow = subst (λ m. FollowDefined g m follow) (let z : f .mode ≡ corrected = cc (f .means) in z) (f .follow);
+pub fills-define : (g : Flat) (empty first follow reached productive cost : List ℕ) → Full g 2 (lent follow (reads (firsts first empty) reached)) → ProductiveDefined g productive → CostDefined g cost → Defined g (tables empty first follow productive cost)
+fills-define g empty first follow reached productive cost f p c = record {
+  read = f .tables .read .firsts;
+  follow = subst (λ m. FollowDefined g m follow) (let z : f .mode ≡ corrected = cc (f .means) in z) (f .tables .follow);
   productive = p;
   cost = c;
 }

@@ -1,9 +1,17 @@
 // The search below `has_path`: links of each rule's productions, then rounds over the rules until one finds nothing to do.
 use grammar::inner::start_at;
 use grammar::inner::wide;
-ghost use Rattle.paths.specs.Lists.{Is, Among, Holds, Goes};
+use tables::inner::words_for;
+ghost use mathlib.Core.Bool.{_&&_};
+ghost use Prim.Native.Nat.{_<_};
+ghost use lib.Dec.{eqb};
+ghost use Rattle.grammar.specs.Flat.{flat};
+ghost use Rattle.rows.specs.Marks.{Raised};
+ghost use Rattle.tables.specs.Sizes.{words};
+ghost use Rattle.paths.specs.Lists.{row, Is, Among, Holds, Goes};
 ghost use Rattle.paths.specs.Links.{Linked, Linkable};
 ghost use Rattle.paths.specs.Search.{Markable, Walkable, Begun, Ready, Turns, Searchable, Finds};
+ghost use Rattle.paths.specs.Reached.{Puttable, Fillable, ReachedDefined};
 
 // What a round came to: whether it found `to`, and whether it found nothing to do.
 pub struct Turn {
@@ -129,7 +137,7 @@ fn round(
     }
 }
 
-// Rounds until one finds `to` or nothing to do.
+// Rounds until one finds `to` or nothing to do; then `seen` has all rules that are reached.
 pub fn search(
     rules: usize,
     owners: &[u16],
@@ -137,14 +145,14 @@ pub fn search(
     symbols: &[u16],
     from: usize,
     to: usize,
+    seen: &mut [bool; 512],
 ) -> bool
-    requires { ⌜ Searchable rules (now owners) (now starts) (now symbols) from ⌝ }
-    ensures { λ r. ⌜ Finds (now (owners .entry)) (now (starts .entry)) (now (symbols .entry)) from to r ⌝ }
+    requires { ⌜ Searchable rules (now owners) (now starts) (now symbols) from (now seen) ⌝ }
+    ensures { λ r. ⌜ Finds (now (owners .entry)) (now (starts .entry)) (now (symbols .entry)) from to r (now (seen .exit)) ⌝ }
 {
     let mut head = [4096; 512];
     let mut next = [4096; 4096];
     links(owners, &mut head, &mut next);
-    let mut seen = [false; 512];
     let mut todo = [false; 512];
     todo[from] = true;
     loop {
@@ -156,7 +164,7 @@ pub fn search(
             &head,
             &next,
             to,
-            &mut seen,
+            seen,
             &mut todo,
         );
         if turn.found {
@@ -166,4 +174,49 @@ pub fn search(
             return false;
         }
     }
+}
+
+// Marks rule r in a row by rule if it is seen; whether that is new.
+fn put_one(rules: usize, seen: bool, r: usize, reached: &mut [u32]) -> bool
+    requires { ⌜ Puttable rules (now reached) × (r < rules) ⌝ }
+    ensures { λ x. ⌜ Raised rules (words rules) (now (reached .entry)) (now (reached .exit)) 0 (λ t. eqb t r && seen) x ⌝ }
+{
+    if seen {
+        return rows::inner::set(reached, words_for(rules), 0, r);
+    }
+    false
+}
+
+// Marks the rules that are seen in a row by rule; whether one is new.
+fn put(rules: usize, seen: &[bool; 512], reached: &mut [u32]) -> bool
+    requires { ⌜ Puttable rules (now reached) ⌝ }
+    ensures { λ x. ⌜ Raised rules (words rules) (now (reached .entry)) (now (reached .exit)) 0 (row (now (seen .entry))) x ⌝ }
+{
+    let mut new = false;
+    let mut r: usize = 0;
+    while r < rules {
+        let got = put_one(rules, seen[r], r, reached);
+        new = new | got;
+        r += 1;
+    }
+    new
+}
+
+// Leaves the reached rules in a row of its length: those that a search from rule 0 sees, for a rule that there is not.
+pub fn reach(
+    rules: u16,
+    owners: &[u16],
+    starts: &[u16],
+    symbols: &[u16],
+    costs: &[u8],
+    reached: &mut [u32],
+)
+    requires { ⌜ Fillable (flat rules (now owners) (now starts) (now symbols) (now costs)) (now reached) ⌝ }
+    ensures { λ _. ⌜ ReachedDefined (flat rules (now (owners .entry)) (now (starts .entry)) (now (symbols .entry)) (now (costs .entry))) (now (reached .exit)) ⌝ }
+{
+    let n = wide(rules);
+    let mut seen = [false; 512];
+    search(n, owners, starts, symbols, 0, n, &mut seen);
+    rows::inner::clear(reached, 0);
+    put(n, &seen, reached);
 }

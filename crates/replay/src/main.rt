@@ -386,6 +386,7 @@ fn fill_and_say(
     empty: &mut [u32],
     first: &mut [u32],
     follow: &mut [u32],
+    reached: &mut [u32],
     productive: &mut [u32],
     cost: &mut [u32],
     lengths: &mut [u32],
@@ -400,6 +401,7 @@ fn fill_and_say(
         follow,
         first,
         empty,
+        reached,
     );
     say_filled(f);
     say_rules(
@@ -436,6 +438,7 @@ fn replay(owners: &[u16], starts: &[u16], symbols: &[u16], costs: &[u8], asked: 
     let mut empty = [0; 16];
     let mut first = [0; 8192];
     let mut follow = [0; 8192];
+    let mut reached = [0; 16];
     let mut productive = [0; 16];
     let mut cost = [0; 512];
     let mut lengths = [0; 512];
@@ -451,6 +454,7 @@ fn replay(owners: &[u16], starts: &[u16], symbols: &[u16], costs: &[u8], asked: 
         &mut empty[..w],
         &mut first[..k],
         &mut follow[..k],
+        &mut reached[..w],
         &mut productive[..w],
         &mut cost[..n],
         &mut lengths[..n],

@@ -6,20 +6,21 @@ use native.Mathlib.Omega.{arith}
 use lib.ListN.{length, take, replicate, length-replicate}
 use lib.Seq.{length-take-le}
 use Rattle.grammar.specs.Flat.{Flat}
-use Rattle.grammar.specs.Outcome.{answers}
+use Rattle.grammar.specs.Outcome.{Outcome, answers}
 use Rattle.grammar.specs.Well.{WellFormed}
 use Rattle.tables.specs.declared.Filled.{Filled}
+use Rattle.tables.specs.Call.{Call, Leaves}
 use Rattle.tables.specs.Sizes.{words}
 use Rattle.tables.proofs.AnyOrder.{goes}
 use Rattle.tables.proofs.Asking.{table-right, row-right, numbers-right, words-most}
 use Rattle.firsts.specs.Lent.{lent as firsts}
-use Rattle.follows.specs.Calls.{Full, fillDue, Fill as FillSets}
-use Rattle.follows.specs.Lent.{lent}
+use Rattle.follows.specs.Calls.{Full, fillDue}
+use Rattle.follows.specs.Lent.{Lent, reads, lent}
 use Rattle.costs.specs.Calls.{FillProductive, Fill as FillCost}
 use Rattle.costs.specs.Defined.{RowFillable, CostFillable, ProductiveDefined, CostDefined}
 use Rattle.lines.specs.Lent.{tables}
 use Rattle.lines.proofs.Saying.{fills-define}
-use Rattle.report.specs.Steps.{SetsFillable, Fillable, Ready}
+use Rattle.report.specs.Steps.{SetsFillable, SetsFull, Fillable, Ready}
 
 -- the tables of a grammar are the fronts of lists with room for the largest
 pub zeros : (n : ℕ) → n ≤ length {A = ℕ} (replicate n 0)
@@ -46,22 +47,28 @@ fronts-fillable g x n w k en ew ek =
     }
 
 -- all of them filled
-pub filled-ready : (g : Flat) → WellFormed g → (empty first follow productive cost : List ℕ) → Full g 2 (lent follow (firsts first empty)) → ProductiveDefined g productive → CostDefined g cost → Ready g (tables empty first follow productive cost)
-filled-ready g x empty first follow productive cost f p c = record { well = x; defined = fills-define g empty first follow productive cost f p c }
+pub filled-ready : (g : Flat) → WellFormed g → (empty first follow productive cost : List ℕ) → SetsFull g follow first empty → ProductiveDefined g productive → CostDefined g cost → Ready g (tables empty first follow productive cost)
+filled-ready g x empty first follow productive cost f p c = record { well = x; defined = fills-define g empty first follow (f .reached) productive cost (f .full) p c }
 
 -- each fill leaves its tables, whatever it answers: no refusal is due
 module _ (g : Flat) where
-  sets-due : (follow first empty : List ℕ) → SetsFillable g follow first empty → fillDue g 2 (lent follow (firsts first empty)) ≡ answers tt
-  sets-due follow first empty f =
+  sets-due : (follow first empty reached : List ℕ) → SetsFillable g follow first empty → length reached ≡ words (g .rules) → fillDue g 2 (lent follow (reads (firsts first empty) reached)) ≡ answers tt
+  sets-due follow first empty reached f l =
       goes g (f .well) _
       ∙ rw (
         table-right (g .rules) (length (g .costs)) follow (f .follow-long),
         table-right (g .rules) (length (g .costs)) first (f .first-long),
         row-right (g .rules) empty (f .empty-long),
+        row-right (g .rules) reached l,
       )
 
-  pub sets-full : (follow first empty : List ℕ) → SetsFillable g follow first empty → (r : Filled) (follow′ first′ empty′ : List ℕ) → FillSets g 2 follow first empty r follow′ first′ empty′ → Full g 2 (lent follow′ (firsts first′ empty′))
-  sets-full follow first empty f r follow′ first′ empty′ x = x .does (sets-due follow first empty f) .left
+  -- the reached row is the front of a list with room for the largest
+  pub reached-long : WellFormed g → (n w : ℕ) → n ≡ g .rules → w ≡ words n → length {A = ℕ} (take w (replicate 16 0)) ≡ words (g .rules)
+  reached-long x n w en ew = front-long w _ (replicate 16 0) (ew ∙ ap words en) (omega (arith, x .sizes .rules-high, zeros 16))
+
+  pub sets-full : (follow first empty reached : List ℕ) → SetsFillable g follow first empty → length reached ≡ words (g .rules) → {s : Outcome (Unit {0})} {l : Lent} → Call (fillDue g 2 (lent follow (reads (firsts first empty) reached))) (Leaves (Full g 2)) (lent follow (reads (firsts first empty) reached)) s l
+      → SetsFull g (l .follow) (l .read .firsts .first) (l .read .firsts .empty)
+  sets-full follow first empty reached f long {l = l} x = record { reached = l .read .reached; full = x .does (sets-due follow first empty reached f long) .left }
 
   pub productive-full : (row : List ℕ) → RowFillable g row → (r : Filled) (row′ : List ℕ) → FillProductive g row r row′ → ProductiveDefined g row′
   productive-full row f r row′ x = x .does (goes g (f .well) _ ∙ rw (row-right (g .rules) row (f .long))) .left

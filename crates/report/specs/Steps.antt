@@ -9,6 +9,9 @@ use Rattle.tables.specs.Append.{Appended}
 use Rattle.tables.specs.Sizes.{words}
 use Rattle.tables.specs.declared.Written.{Written}
 use Rattle.tables.specs.declared.Written.the-variants.{Bytes, Refused}
+use Rattle.firsts.specs.Lent.{lent as firsts}
+use Rattle.follows.specs.Calls.{Full}
+use Rattle.follows.specs.Lent.{reads, lent}
 use Rattle.lines.specs.Line.{Entry, lineOf}
 use Rattle.lines.specs.Lent.{Tables}
 use Rattle.lines.specs.Says.{Defined, Says}
@@ -43,6 +46,11 @@ pub record SetsFillable (g : Flat) (follow first empty : List ℕ) : Type 0 wher
   pub follow-long : length follow ≡ g .rules * words (length (g .costs))
   pub first-long : length first ≡ g .rules * words (length (g .costs))
   pub empty-long : length empty ≡ words (g .rules)
+
+-- mode 2 FOLLOW, FIRST and EMPTY were left, beside a reached row
+pub record SetsFull (g : Flat) (follow first empty : List ℕ) : Type 0 where
+  pub reached : List ℕ
+  pub full : Full g 2 (lent follow (reads (firsts first empty) reached))
 
 -- a well-formed grammar and all its tables of their exact lengths
 pub record Fillable (g : Flat) (l : Tables) : Type 0 where

@@ -12,6 +12,8 @@ pub mod Cost
 pub mod CostRounds
 pub mod Paths
 pub mod Search
+pub mod Reached
+pub mod Standing
 pub mod Sentences
 pub mod Choices
 pub mod Lengths

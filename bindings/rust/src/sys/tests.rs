@@ -23,10 +23,11 @@ fn seven_for_mark_tables() {
         assert_eq!(refused(first_visit(G1, 0, &mut wrong, &mut row)), 7);
         assert_eq!(refused(first_fill(G1, &mut wrong, &mut row)), 7);
         assert_eq!(refused(follow_clear(G1, &mut wrong)), 7);
-        assert_eq!(refused(follow_visit(G1, 1, 0, &mut right, &wrong, &row)), 7);
-        assert_eq!(refused(follow_visit(G1, 1, 0, &mut wrong, &right, &row)), 7);
-        assert_eq!(refused(follow_fill(G1, 1, &mut right, &mut wrong, &mut row)), 7);
-        assert_eq!((wrong, right, row), (vec![9; len], [9; 4], [9; 1]));
+        let mut reached = [9; 1];
+        assert_eq!(refused(follow_visit(G1, 1, 0, &mut right, &wrong, &row, &reached)), 7);
+        assert_eq!(refused(follow_visit(G1, 1, 0, &mut wrong, &right, &row, &reached)), 7);
+        assert_eq!(refused(follow_fill(G1, 1, &mut right, &mut wrong, &mut row, &mut reached)), 7);
+        assert_eq!((wrong, right, row, reached), (vec![9; len], [9; 4], [9; 1], [9; 1]));
     }
 }
 
@@ -36,6 +37,7 @@ fn seven_for_rows_and_numbers() {
         let (mut wrong, mut row, mut cost, mut out) = (vec![9; len], [9; 1], [9; 4], [9; 8]);
         assert_eq!(refused(rule_mark(G1, &wrong, 0)), 7);
         assert_eq!(refused(first_fill(G1, &mut cost, &mut wrong)), 7);
+        assert_eq!(refused(reached_fill(G1, &mut wrong)), 7);
         assert_eq!(refused(productive_clear(G1, &mut wrong)), 7);
         assert_eq!(refused(productive_visit(G1, 0, &mut wrong)), 7);
         assert_eq!(refused(productive_fill(G1, &mut wrong)), 7);
@@ -45,6 +47,19 @@ fn seven_for_rows_and_numbers() {
         assert_eq!(refused(min_sentence_cost(G1, 0, &mut row, &mut wrong)), 7);
         assert_eq!(refused(min_sentence(G1, 0, &mut row, &mut cost, &mut wrong, &mut out)), 7);
         assert_eq!((wrong, row, cost, out), (vec![9; len], [9; 1], [9; 4], [9; 8]));
+    }
+}
+
+/// The reached row is lent in both modes; 7 comes before 8 and 11.
+#[test]
+fn seven_for_the_reached_row() {
+    for (len, mode) in [0, 2, 3].into_iter().flat_map(|len| [0, 1, 2, 3].map(|mode| (len, mode))) {
+        let (mut follow, mut first, mut empty, mut wrong) = ([9; 4], [9; 4], [9; 1], vec![9; len]);
+        for prod in [0, 6] {
+            assert_eq!(refused(follow_visit(G1, mode, prod, &mut follow, &first, &empty, &wrong)), 7, "mode {mode}");
+        }
+        assert_eq!(refused(follow_fill(G1, mode, &mut follow, &mut first, &mut empty, &mut wrong)), 7, "mode {mode}");
+        assert_eq!((follow, first, empty, wrong), ([9; 4], [9; 4], [9; 1], vec![9; len]));
     }
 }
 
@@ -89,10 +104,12 @@ fn twenty_five_and_twenty_six_come_before_twenty_four() {
 #[test]
 fn eight_for_other_modes() {
     for mode in [0, 3, 65535] {
-        let (mut follow, mut first, mut empty) = ([9; 4], [9; 4], [9; 1]);
-        assert_eq!(refused(follow_visit(G1, mode, 0, &mut follow, &first, &empty)), 8);
-        assert_eq!(refused(follow_fill(G1, mode, &mut follow, &mut first, &mut empty)), 8);
-        assert_eq!((follow, first, empty), ([9; 4], [9; 4], [9; 1]));
+        let (mut follow, mut first, mut empty, mut reached) = ([9; 4], [9; 4], [9; 1], [9; 1]);
+        for prod in [0, 6] {
+            assert_eq!(refused(follow_visit(G1, mode, prod, &mut follow, &first, &empty, &reached)), 8);
+        }
+        assert_eq!(refused(follow_fill(G1, mode, &mut follow, &mut first, &mut empty, &mut reached)), 8);
+        assert_eq!((follow, first, empty, reached), ([9; 4], [9; 4], [9; 1], [9; 1]));
     }
 }
 
@@ -104,7 +121,8 @@ fn a_refused_grammar_ends_every_call_first() {
     assert_eq!(production(wrong, 99).range(), Err(Refusal::Sizes));
     assert_eq!(refused(mark(wrong, &table, 9, 9)), 1);
     assert_eq!(refused(has_path(wrong, 9, 9)), 1);
-    assert_eq!(refused(follow_visit(wrong, 9, 99, &mut table, &[], &empty)), 1);
+    assert_eq!(refused(reached_fill(wrong, &mut table)), 1);
+    assert_eq!(refused(follow_visit(wrong, 9, 99, &mut table, &[], &empty, &[])), 1);
     assert_eq!(refused(min_sentence(wrong, 9, &mut table, &mut [], &mut [], &mut [])), 1);
     assert_eq!(table, [9; 3]);
     for len in [0, 511, 600] {
@@ -121,7 +139,54 @@ fn words_are_where_document_01_has_them() {
     let (mut first, mut empty) = ([u32::MAX; 4], [u32::MAX; 1]);
     first_fill(G1, &mut first, &mut empty).number().unwrap();
     assert_eq!((first, empty), ([0b101, 0b101, 0b100, 0b010], [0b1100]));
+    let mut reached = [u32::MAX; 1];
+    reached_fill(G1, &mut reached).number().unwrap();
+    assert_eq!(reached, [0b1111]);
     let mut cost = [9; 4];
     cost_clear(G1, &mut cost).number().unwrap();
     assert_eq!(cost, [65536; 4]);
+}
+
+/// S: A; A: a; U: A z. Rules 1 S, 2 A, 3 U; tokens 0 a, 1 z.
+const DEAD: Flat = Flat {
+    rules: 4,
+    owners: &[0, 1, 2, 3],
+    starts: &[0, 1, 2, 3, 5],
+    symbols: &[32769, 32770, 0, 32770, 1],
+    costs: &[1, 1, 1],
+};
+
+/// What counts in mode 2 is the row that is lent, whatever it holds; mode 1 reads none.
+#[test]
+fn the_lent_row_tells_which_productions_count() {
+    for (mode, prod, row, changed) in [
+        (2, 3, 0b0111, false),
+        (2, 3, 0b1000, true),
+        (2, 3, 0b1111, true),
+        (2, 3, 0xFFFF_FFF0, false),
+        (2, 3, 0, false),
+        (2, 0, 0b0001, true),
+        (2, 0, 0b1110, false),
+        (2, 0, 0, false),
+        (1, 3, 0, true),
+        (1, 3, 0b0111, true),
+        (1, 0, 0, true),
+    ] {
+        let mut follow = [0b100, 0, 0, 0];
+        let visited = follow_visit(DEAD, mode, prod, &mut follow, &[1; 4], &[0], &[row]).yes();
+        assert_eq!(visited, Ok(changed), "mode {mode}, production {prod}, row {row:b}");
+        assert_eq!(follow != [0b100, 0, 0, 0], changed);
+    }
+}
+
+/// The fill fills the row in both modes, whatever it held.
+#[test]
+fn follows_fill_leaves_the_reached_row() {
+    for (mode, z) in [(1, 0b010), (2, 0)] {
+        for row in [0, 0b1000, u32::MAX] {
+            let (mut follow, mut first, mut empty, mut reached) = ([9; 4], [9; 4], [9; 1], [row]);
+            follow_fill(DEAD, mode, &mut follow, &mut first, &mut empty, &mut reached).number().unwrap();
+            assert_eq!((follow, reached), ([0b100, 0b100, 0b100 | z, 0], [0b0111]), "mode {mode}, row {row:b}");
+        }
+    }
 }

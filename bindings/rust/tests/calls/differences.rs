@@ -1,9 +1,9 @@
-//! Inputs of docs/DIFFERENCES.md besides document 01's grammars: what is answered where the Rust loses marks, writes
-//! tokens again, panics, never returns or builds no such grammar. In each the start is rule 1, in the last but one rule 2
-//! too.
+//! Inputs of docs/DIFFERENCES.md besides document 01's grammars: what is answered where the Rust loses marks, has marks
+//! of dead rules, writes tokens again, panics, never returns or builds no such grammar. In each the start is rule 1, in
+//! the last but one rule 2 too.
 use boltmarrow::{Mode, RIdx, Refusal, TIdx};
 
-use crate::grammars::{built, well, RULE};
+use crate::grammars::{built, dead, well, RULE};
 use crate::sentences::{cost, sentence};
 
 const A: u16 = RULE + 1;
@@ -15,6 +15,18 @@ fn follow_past_a_rule_that_vanishes() {
     let grm = well(3, &[(0, &[A]), (1, &[A, B, 0]), (2, &[])], &[1, 1]);
     let c_after_a = |mode| grm.follows(mode).is_set(RIdx(1), TIdx(0));
     assert_eq!((c_after_a(Mode::Crate), c_after_a(Mode::Corrected)), (Ok(false), Ok(true)));
+}
+
+#[test]
+fn follow_without_dead_rules() {
+    // S: A; A: a; U: A z
+    let grm = dead();
+    let z_after_a = |mode| grm.follows(mode).is_set(RIdx(2), TIdx(1));
+    assert_eq!((z_after_a(Mode::Crate), z_after_a(Mode::Corrected)), (Ok(true), Ok(false)));
+    // A: nothing; U: A z
+    let grm = well(3, &[(0, &[A]), (1, &[]), (2, &[A, 0])], &[1, 1]);
+    let z_after_a = |mode| grm.follows(mode).is_set(RIdx(1), TIdx(0));
+    assert_eq!((z_after_a(Mode::Crate), z_after_a(Mode::Corrected)), (Ok(true), Ok(false)));
 }
 
 #[test]

@@ -1,5 +1,5 @@
-//! Document 01's grammars, and one with two exports. G2 to G6 have the start's production first and eof last, as
-//! docs/DECISIONS.md has them.
+//! Document 01's grammars, one with two exports and one with a dead rule. G2 to G6 have the start's production first and
+//! eof last, as docs/DECISIONS.md has them.
 use boltmarrow::{Grammar, Refusal};
 
 /// In the symbol list rule r is `RULE + r`.
@@ -95,6 +95,11 @@ pub fn exports() -> Grammar {
         (0, &[RULE + 2]),
     ];
     well(5, &prods, &[3, 2, 1, 1, 1, 1])
+}
+
+/// Document 02's dead rule: S: A; A: a; U: A z, and U is used nowhere. Rules 1 S, 2 A, 3 U; tokens 0 a, 1 z.
+pub fn dead() -> Grammar {
+    well(4, &[(0, &[RULE + 1]), (1, &[RULE + 2]), (2, &[0]), (3, &[RULE + 2, 1])], &[1, 1, 1])
 }
 
 /// The start is rule 1; rule r is rule r+1 twice, as far as rule `last`, which is `body`. Tokens 0, and eof.

@@ -127,6 +127,7 @@ fn numbers_that_are_not_there() {
     assert_eq!(follows.is_set(RIdx(0), TIdx(65535)), token);
     assert_eq!(follows.follows(RIdx(4)).err(), Some(Refusal::RuleNumber));
     assert_eq!(grm.productive().is_set(RIdx(4)), rule);
+    assert_eq!(grm.reached().is_set(RIdx(4)), rule);
     assert_eq!(grm.costs().cost(RIdx(4)), Err(Refusal::RuleNumber));
     assert_eq!(grm.has_path(RIdx(0), RIdx(4)), rule);
     assert_eq!(grm.has_path(RIdx(4), RIdx(0)), rule);

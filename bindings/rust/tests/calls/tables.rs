@@ -1,7 +1,7 @@
-//! FIRST, EMPTY, FOLLOW, paths, PRODUCTIVE and COST.
+//! FIRST, EMPTY, FOLLOW, paths, the reached row, PRODUCTIVE and COST.
 use boltmarrow::{Grammar, Mode, PIdx, RIdx, SIdx, Symbol, TIdx};
 
-use crate::grammars::{comma, exports, g1, g2, g3, g4, g5, g5_either, g6, well, RULE};
+use crate::grammars::{comma, dead, exports, g1, g2, g3, g4, g5, g5_either, g6, well, RULE};
 
 fn numbers(tokens: impl Iterator<Item = TIdx>) -> Vec<u16> {
     tokens.map(|tidx| tidx.as_storaget()).collect()
@@ -20,6 +20,11 @@ fn empties(grm: &Grammar) -> Vec<bool> {
 fn follows(grm: &Grammar, mode: Mode) -> Vec<Vec<u16>> {
     let follows = grm.follows(mode);
     grm.iter_rules().map(|ridx| numbers(follows.follows(ridx).unwrap())).collect()
+}
+
+fn reached(grm: &Grammar) -> Vec<bool> {
+    let reached = grm.reached();
+    grm.iter_rules().map(|ridx| reached.is_set(ridx).unwrap()).collect()
 }
 
 fn costs(grm: &Grammar) -> Vec<Option<u16>> {
@@ -75,12 +80,41 @@ fn two_exports_in_one_grammar() {
     assert_eq!(grm.prod_len(PIdx(6)), Ok(SIdx(1)));
 }
 
+/// z follows A in the crate's mode alone, and nothing follows U in either.
 #[test]
-fn a_filled_follow_has_filled_firsts() {
+fn a_dead_rule_puts_nothing_into_follow() {
+    let grm = dead();
+    assert_eq!(reached(&grm), [true, true, true, false]);
+    assert_eq!(follows(&grm, Mode::Crate), [vec![2], vec![2], vec![1, 2], vec![]]);
+    assert_eq!(follows(&grm, Mode::Corrected), [vec![2], vec![2], vec![2], vec![]]);
+    // made an export it is no longer dead
+    let prods: [(u16, &[u16]); 5] =
+        [(0, &[RULE + 1]), (0, &[RULE + 3]), (1, &[RULE + 2]), (2, &[0]), (3, &[RULE + 2, 1])];
+    let both = well(4, &prods, &[1, 1, 1]);
+    assert_eq!(reached(&both), [true; 4]);
+    assert_eq!(follows(&both, Mode::Corrected), [vec![2], vec![2], vec![1, 2], vec![2]]);
+}
+
+#[test]
+fn all_rules_of_document_01s_grammars_are_reached() {
+    for grm in [g1(), g2(), g3(), g4(), g5(1), g6(), comma(), exports()] {
+        assert!(reached(&grm).into_iter().all(|reached| reached));
+    }
+}
+
+#[test]
+fn a_filled_follow_has_what_it_was_made_from() {
     let grm = g1();
     let follows = grm.follows(Mode::Corrected);
     assert_eq!(numbers(follows.firsts().firsts(RIdx(1)).unwrap()), [0, 2]);
     assert!(follows.firsts().is_epsilon_set(RIdx(3)).unwrap());
+    let grm = dead();
+    for mode in [Mode::Crate, Mode::Corrected] {
+        let (follows, table) = (grm.follows(mode), grm.follow_table(mode));
+        for reached in [follows.reached(), table.reached()] {
+            assert_eq!([0, 1, 2, 3].map(|r| reached.is_set(RIdx(r))), [Ok(true), Ok(true), Ok(true), Ok(false)]);
+        }
+    }
 }
 
 #[test]

@@ -1,7 +1,7 @@
 //! Single visits.
 use boltmarrow::{Grammar, Mode, PIdx, RIdx, Refusal, TIdx};
 
-use crate::grammars::{comma, exports, g1, g2, g6};
+use crate::grammars::{comma, dead, exports, g1, g2, g6};
 
 /// Rounds over the productions, from the last to the first, until one changes nothing.
 fn rounds(grm: &Grammar, mut visit: impl FnMut(PIdx) -> Result<bool, Refusal>) {
@@ -44,7 +44,7 @@ fn first_visits_in_another_order_leave_the_fills_table() {
 
 #[test]
 fn follow_visits_in_another_order_leave_the_fills_table() {
-    for grm in [g1(), g2(), comma(), exports()] {
+    for grm in [g1(), g2(), comma(), exports(), dead()] {
         for mode in [Mode::Crate, Mode::Corrected] {
             let (mut table, filled) = (grm.follow_table(mode), grm.follows(mode));
             rounds(&grm, |pidx| table.visit(pidx));
@@ -66,6 +66,18 @@ fn a_cleared_follow_holds_eof_for_the_start() {
     assert_eq!(marks(&grm, |ridx| table.follows(ridx)), visited);
     table.clear();
     assert_eq!(marks(&grm, |ridx| table.follows(ridx)), cleared);
+}
+
+#[test]
+fn a_visit_of_a_dead_rules_production_changes_nothing() {
+    let grm = dead();
+    let (a, z, [of_s, of_u]) = (RIdx(2), TIdx(1), [PIdx(1), PIdx(3)]);
+    let mut table = grm.follow_table(Mode::Corrected);
+    let visited = [of_u, PIdx(0), of_u, of_s, of_u].map(|pidx| table.visit(pidx).unwrap());
+    assert_eq!(visited, [false, true, false, true, false]);
+    assert_eq!(table.is_set(a, z), Ok(false));
+    let mut table = grm.follow_table(Mode::Crate);
+    assert_eq!((table.visit(of_u), table.is_set(a, z)), (Ok(true), Ok(true)));
 }
 
 #[test]

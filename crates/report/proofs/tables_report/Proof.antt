@@ -10,7 +10,7 @@ fill-productive-requires : tie.Need-fill-productive-requires
 fill-productive-requires c κs = search needs
 
 fill-cost-requires : tie.Need-fill-cost-requires
-fill-cost-requires c κs = search needs
+fill-cost-requires c κs = let s = c .before .before .before .before .before .before .before .before .before .before .before .before .before .before .before .before .before .before .before .before .before .before .before .before .before in record { well = s .pre .0 .well; long = s .pre .0 .cost-long }
 
 lines-report-requires : tie.Need-lines-report-requires
 lines-report-requires c κs =

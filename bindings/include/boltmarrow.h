@@ -158,7 +158,7 @@ boltmarrow_answer boltmarrow_min_sentence_cost(BOLTMARROW_GRAMMAR, boltmarrow_ri
                                                uint32_t *cost, size_t cost_len);
 
 /* The reached row: rule 0 and the rules that have a path from it, whatever was there. All other
- * rules are dead: no row has them. Refusals 1 to 7. */
+ * rules are dead: they stand in no form that rule 0 derives. Refusals 1 to 7. */
 boltmarrow_answer boltmarrow_reached_fill(BOLTMARROW_GRAMMAR, uint32_t *reached,
                                           size_t reached_len);
 

@@ -1,4 +1,5 @@
 // The search below `has_path`: links of each rule's productions, then rounds over the rules until one finds nothing to do.
+use grammar::inner::links;
 use grammar::inner::start_at;
 use grammar::inner::wide;
 use tables::inner::words_for;
@@ -9,7 +10,6 @@ ghost use Rattle.grammar.specs.Flat.{flat};
 ghost use Rattle.rows.specs.Marks.{Raised};
 ghost use Rattle.tables.specs.Sizes.{words};
 ghost use Rattle.paths.specs.Lists.{row, Is, Among, Holds, Goes};
-ghost use Rattle.paths.specs.Links.{Linked, Linkable};
 ghost use Rattle.paths.specs.Search.{Markable, Walkable, Begun, Ready, Turns, Searchable, Finds};
 ghost use Rattle.paths.specs.Reached.{Puttable, Fillable, ReachedDefined};
 
@@ -17,21 +17,6 @@ ghost use Rattle.paths.specs.Reached.{Puttable, Fillable, ReachedDefined
 pub struct Turn {
     pub found: bool,
     pub empty: bool,
-}
-
-// Links each rule's productions in rising number, as `rule_to_prods` has them: `head` leads to a
-// rule's lowest, `next` from a production to the next of its rule; 4096 where there is none.
-fn links(owners: &[u16], head: &mut [u16; 512], next: &mut [u16; 4096])
-    requires { ⌜ Linkable (now owners) (now head) (now next) ⌝ }
-    ensures { λ _. ⌜ Linked (now (owners .entry)) (now (head .exit)) (now (next .exit)) 0 ⌝ }
-{
-    let mut p = owners.len();
-    while 0 < p {
-        p -= 1;
-        let r = wide(owners[p]);
-        next[p] = head[r];
-        head[r] = p as u16;
-    }
 }
 
 // One symbol: whether it is `to`. Another rule that is not seen is to be done.

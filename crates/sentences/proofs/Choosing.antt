@@ -1,157 +1,143 @@
--- The pass that finds first choices: what a production's turn makes of them, and what all turns leave.
-use mathlib.Core.Bool.{Bool, true, false, not, cond, _&&_, _||_, or-false, or-true, false≢true, true≢false}
+-- First choices: going up a rule's productions, and rule by rule.
+use mathlib.Core.Bool.{Bool, true, false, _&&_, false≢true}
 use mathlib.Core.List.{List}
 use mathlib.Core.Path.{_≡_, refl, sym, ap, _∙_, subst}
-use Prim.Native.Nat.{ℕ, _+_, _≤_, _<_, min}
-use native.Mathlib.Decide.{ℕ-discrete}
-use native.Mathlib.Numerals.{add-one}
+use Prim.Native.Nat.{ℕ, _+_, _-_, _≤_, _<_, min}
+use native.Mathlib.Decide.{decLt, ℕ-discrete}
 use native.Mathlib.Omega.{arith}
 use lib.Dec.{eqb, leb, ltb}
 use lib.ListN.{length, getD, set, replicate, length-set, length-replicate, getD-replicate, List·getD-eq-default}
 use lib.Seq.{getD-set-same, getD-set-other}
-use native.Mathlib.Decide.{decLt}
-use borrow.Author.Tests.{leb-true, eqb-true, le-leb, lt-ltb, le-ltb, eq-eqb, ne-eqb}
+use borrow.Author.Tests.{eqb-true, le-leb, lt-leb, ltb-true, ltb-false, lt-ltb, le-ltb, eq-eqb, ne-eqb}
 use Rattle.theory.specs.Below.{FirstBelow}
-use Rattle.theory.specs.Levels.{suits, ChosenBelow}
+use Rattle.theory.specs.Levels.{suits}
 use Rattle.theory.specs.Visits.{formCost}
-use Rattle.theory.proofs.Bools.{and-split, bool-eq}
-use Rattle.theory.proofs.Choices.{chosen-none, chosen-more, chosen-all}
+use Rattle.theory.proofs.Choices.{chosen-all}
 use Rattle.grammar.specs.Flat.{Flat, flat, at, ProdAt, form, denoted, price}
+use Rattle.grammar.specs.Links.{Leads, Linked, Linkable}
+use Rattle.grammar.specs.Well.{WellFormed}
 use Rattle.grammar.proofs.Forms.{Placed, placed}
+use Rattle.grammar.proofs.Linking.{linkable}
 use Rattle.costs.specs.Lent.{costsOf, sumOf}
 use Rattle.costs.specs.Step.{Pricing, CostReady}
-use Rattle.costs.proofs.Stepping.{cost-lists, pricing, owner-in}
-use Rattle.costs.proofs.Summing.{default-same, entry}
+use Rattle.costs.proofs.Stepping.{cost-lists, pricing}
+use Rattle.costs.proofs.Summing.{entry}
 use Rattle.sentences.specs.Lent.{choicesOf}
-use Rattle.sentences.specs.Choosing.{ChoiceReady, ChoiceBecame, Choosable, FirstChoices}
+use Rattle.sentences.specs.Choosing.{FromReady, CheapestFrom, Choosable, FirstChoices}
 
--- a sum cut at 65536 equals a cost exactly if the sum does
-cut-same : (f s n : ℕ) → s ≡ min f 65536 → n ≤ 65535 → eqb f n ≡ eqb s n
-cut-same f s n e le = bool-eq (eqb f n) (eqb s n) (λ k. eq-eqb s n (omega (arith, eqb-true f n k))) (λ k. eq-eqb f n (omega (arith, eqb-true s n k)))
+-- a production suits no rule but its owner
+unfit : (g : Flat) (cost : List ℕ) (r p : ℕ) → (at (g .owners) p ≡ r → ⊥) → suits (denoted g) (price g) (costsOf cost) r p ≡ false
+unfit g cost r p d = rw (ne-eqb r (at (g .owners) p) (λ e. d (sym e)))
 
--- what becomes of a rule's entry x: whether the rule has a choice now, and which
-module _ (x p : ℕ) (b : Bool) where
-  has-kept : (b && leb 4096 x) ≡ false → ltb x 4096 ≡ (ltb x 4096 || b)
-  has-kept k = go (ltb x 4096) refl b k
-    where
-      go : (y : Bool) → ltb x 4096 ≡ y → (c : Bool) → (c && leb 4096 x) ≡ false → y ≡ (y || c)
-      go true e c h = refl
-      go false e false h = refl
-      go false e true h = absurd (true≢false (sym (le-leb 4096 x (ltb-false x 4096 e)) ∙ h))
-        where
-          ltb-false : (m n : ℕ) → ltb m n ≡ false → n ≤ m
-          ltb-false m n q = elim (decLt m n) [ yes l ↦ absurd (true≢false (sym (lt-ltb m n l) ∙ q)) | no l ↦ omega arith ]
+-- `cheapest_from`: q is one of r's productions or past the last, and those from p up to q do not cost what r does
+pub record Rising (g : Flat) (cost : List ℕ) (r p q : ℕ) : Type 0 where
+  pub low : p ≤ q
+  pub owns : q < length (g .owners) → at (g .owners) q ≡ r
+  pub passed : (k : ℕ) → p ≤ k → k < q → k < length (g .owners) → suits (denoted g) (price g) (costsOf cost) r k ≡ false
 
-  prod-kept : (b && leb 4096 x) ≡ false → x ≡ cond (ltb x 4096 || not b) x p
-  prod-kept k = go (ltb x 4096) b (has-kept k)
-    where
-      go : (y c : Bool) → y ≡ (y || c) → x ≡ cond (y || not c) x p
-      go true c e = refl
-      go false false e = refl
-      go false true e = absurd (false≢true e)
-
-  module _ (k : (b && leb 4096 x) ≡ true) where
-    open-now : ltb x 4096 ≡ false
-    open-now = le-ltb x 4096 (leb-true 4096 x (and-split b _ k .1))
-
-    has-taken : p < 4096 → ltb p 4096 ≡ (ltb x 4096 || b)
-    has-taken l = lt-ltb p 4096 l ∙ sym (rw (open-now, and-split b _ k .0))
-
-    prod-taken : p ≡ cond (ltb x 4096 || not b) x p
-    prod-taken = rw (open-now, and-split b _ k .0)
-
-module _ (rules : ℕ) (owners starts symbols costs : List ℕ) (p : ℕ) (cost choice : List ℕ) (ok : ChoiceReady (flat rules owners starts symbols costs) p cost choice) where
+module _ (rules : ℕ) (owners starts symbols costs next cost : List ℕ) (r p : ℕ) (ok : FromReady (flat rules owners starts symbols costs) next cost r p) where
   abbrev g : Flat
   g = flat rules owners starts symbols costs
 
-  ready : CostReady g p cost
-  ready = record { well = ok .well; isProd = ok .isProd; long = ok .long }
+  pub rule-entry : r < length cost
+  rule-entry = omega (arith, ok .isRule, ok .cost-long)
 
-  pub choice-lists : (p < length owners) × (p + 1 < length starts)
-  choice-lists = cost-lists rules owners starts symbols costs p cost ready
+  pub rising-start : Rising g cost r p p
+  rising-start = record { low = omega arith; owns = ok .owns; passed = λ k a b. absurd (omega arith) }
 
-  module _ (o a e : ℕ) (h : ProdAt owners starts p o a e) where
-    pub choice-pricing : Pricing symbols costs a e cost
-    choice-pricing = pricing rules owners starts symbols costs p cost ready o a e h
+  module _ (least : ℕ) (el : least ≡ at cost r) where
+    held : costsOf cost r ≡ least
+    held = entry cost r rule-entry ∙ sym el
 
-    pub choice-owner : o < length cost
-    choice-owner = owner-in rules owners starts symbols costs p cost ready o a e h
+    -- a rule that costs more than 65535 has no choice
+    pub from-dear : 65535 < least → CheapestFrom g cost r p 4096
+    from-dear h = record {
+      most = omega arith;
+      isProd = λ l. absurd (omega arith);
+      low = λ l. absurd (omega arith);
+      costs = λ l. absurd (omega arith);
+      first = λ q a b l. rw (held, lt-leb least 65535 h) (go (eqb r (at owners q)));
+    }
+      where
+        go : (b : Bool) → (b && false) ≡ false
+        go true = refl
+        go false = refl
 
-    pub choice-place : o < 512
-    choice-place = omega (arith, choice-owner, ok .long, ok .well .sizes .rules-high)
+    module _ (cheap : least ≤ 65535) (q : ℕ) (x : Rising g cost r p q) where
+      pub from-none : length owners ≤ q → CheapestFrom g cost r p 4096
+      from-none h = record {
+        most = omega arith;
+        isProd = λ l. absurd (omega arith);
+        low = λ l. absurd (omega arith);
+        costs = λ l. absurd (omega arith);
+        first = λ k a b l. x .passed k a (omega arith) l;
+      }
 
-    module _ (least s : ℕ) (el : least ≡ at cost o) (es : s ≡ sumOf costs cost (form symbols a e)) where
-      at-prod : Placed g p o a e
-      at-prod = placed _ (ok .well) p (ok .isProd) o a e h
+      module _ (l : q < length owners) where
+        ready : CostReady g q cost
+        ready = record { well = ok .well; isProd = l; long = ok .cost-long }
 
-      abbrev f : ℕ
-      f = formCost (at costs) (costsOf cost) (denoted g .body p)
+        pub rising-lists : (q < length owners) × (q + 1 < length starts)
+        rising-lists = cost-lists rules owners starts symbols costs q cost ready
 
-      cut : s ≡ min f 65536
-      unfolding sumOf
-      cut = es ∙ rw (at-prod .body)
+        pub rising-place : q < 4096
+        rising-place = omega (arith, ok .well .sizes .prods-high)
 
-      held : costsOf cost o ≡ least
-      held = entry cost o choice-owner ∙ sym el
+        module _ (o a e : ℕ) (h : ProdAt owners starts q o a e) where
+          pub rising-pricing : Pricing symbols costs a e cost
+          rising-pricing = pricing rules owners starts symbols costs q cost ready o a e h
 
-      -- whether the production suits its owner, and no other rule
-      fit : suits (denoted g) (price g) (costsOf cost) o p ≡ (leb least 65535 && eqb s least)
-      fit = rw (← (h .owner), eq-eqb o o refl, held) (go (leb least 65535) refl)
-        where
-          go : (b : Bool) → leb least 65535 ≡ b → (b && eqb f least) ≡ (b && eqb s least)
-          go true q = cut-same f s least cut (leb-true least 65535 q)
-          go false q = refl
+          module _ (s : ℕ) (es : s ≡ sumOf costs cost (form symbols a e)) where
+            at-prod : Placed g q o a e
+            at-prod = placed g (ok .well) q l o a e h
 
-      unfit : (r : ℕ) → (r ≡ o → ⊥) → suits (denoted g) (price g) (costsOf cost) r p ≡ false
-      unfit r d = rw (← (h .owner), ne-eqb r o d)
+            abbrev f : ℕ
+            f = formCost (at costs) (costsOf cost) (denoted g .body q)
 
-      module _ (x : ℕ) (ex : x ≡ at choice o) where
-        inside : getD choice o 4096 ≡ x
-        inside = default-same choice o 4096 0 (omega (arith, choice-place, ok .room)) ∙ sym ex
+            cut : s ≡ min f 65536
+            unfolding sumOf
+            cut = es ∙ rw (at-prod .body)
 
-        pub choice-stays : ((leb least 65535 && eqb s least) && leb 4096 x) ≡ false → ChoiceBecame g p cost choice choice
-        unfolding choicesOf
-        choice-stays k = record { long = refl; has = has; prod = prod }
-          where
-            has : (r : ℕ) → ltb (getD choice r 4096) 4096 ≡ (ltb (getD choice r 4096) 4096 || suits (denoted g) (price g) (costsOf cost) r p)
-            has r = elim (ℕ-discrete r o) [
-              | yes d ↦ rw (d, fit, inside) (has-kept x p (leb least 65535 && eqb s least) k)
-              | no d ↦ rw (unfit r d) (sym (or-false (ltb (getD choice r 4096) 4096)))
-            ]
+            fits : (b : Bool) → eqb f least ≡ b → suits (denoted g) (price g) (costsOf cost) r q ≡ b
+            fits b k = rw (x .owns l, eq-eqb r r refl, held, le-leb least 65535 cheap) k
 
-            prod : (r : ℕ) → getD choice r 4096 ≡ cond (ltb (getD choice r 4096) 4096 || not (suits (denoted g) (price g) (costsOf cost) r p)) (getD choice r 4096) p
-            prod r = elim (ℕ-discrete r o) [
-              | yes d ↦ rw (d, fit, inside) (prod-kept x p (leb least 65535 && eqb s least) k)
-              | no d ↦ rw (unfit r d, or-true (ltb (getD choice r 4096) 4096))
-            ]
+            -- it has the rule's cost
+            pub from-found : s ≡ least → CheapestFrom g cost r p q
+            from-found k = record {
+              most = omega (arith, rising-place);
+              isProd = λ _. l;
+              low = λ _. x .low;
+              costs = λ _. fits true (eq-eqb f least (omega (arith, cut)));
+              first = x .passed;
+            }
 
-        pub choice-takes : ((leb least 65535 && eqb s least) && leb 4096 x) ≡ true → ChoiceBecame g p cost choice (set choice o p)
-        unfolding choicesOf
-        choice-takes k = record { long = length-set choice o p; has = has; prod = prod }
-          where
-            small : p < 4096
-            small = omega (arith, ok .isProd, ok .well .sizes .prods-high)
+            -- it has not, and the next one's turn comes
+            module _ (d : s ≡ least → ⊥) (n : ℕ) (en : n ≡ at next q) where
+              leads : Leads owners r (q + 1) n
+              leads = rw en (subst (λ z. Leads owners z (q + 1) (at next q)) (x .owns l) (ok .nexts q l))
 
-            own : getD (set choice o p) o 4096 ≡ p
-            own = getD-set-same choice o p 4096 (omega (arith, choice-place, ok .room))
+              pub rising-less : length owners - n < length owners - q
+              rising-less = omega (arith, leads .low)
 
-            has : (r : ℕ) → ltb (getD (set choice o p) r 4096) 4096 ≡ (ltb (getD choice r 4096) 4096 || suits (denoted g) (price g) (costsOf cost) r p)
-            has r = elim (ℕ-discrete r o) [
-              | yes d ↦ rw (d, fit, own, inside) (has-taken x p (leb least 65535 && eqb s least) k small)
-              | no d ↦ rw (unfit r d, getD-set-other choice o r p 4096 d) (sym (or-false (ltb (getD choice r 4096) 4096)))
-            ]
+              pub rising-on : Rising g cost r p n
+              rising-on = record {
+                low = omega (arith, x .low, leads .low);
+                owns = leads .owns;
+                passed = λ k a b lk. elim (decLt k q) [
+                  | yes below ↦ x .passed k a below lk
+                  | no above ↦ elim (ℕ-discrete k q) [
+                    | yes same ↦ subst (λ z. suits (denoted g) (price g) (costsOf cost) r z ≡ false) (sym same) (fits false (ne-eqb f least (λ z. d (let y : s ≡ least = omega (arith, cut) in y))))
+                    | no other ↦ unfit g cost r k (leads .least k (omega arith) b lk)
+                  ]
+                ];
+              }
 
-            prod : (r : ℕ) → getD (set choice o p) r 4096 ≡ cond (ltb (getD choice r 4096) 4096 || not (suits (denoted g) (price g) (costsOf cost) r p)) (getD choice r 4096) p
-            prod r = elim (ℕ-discrete r o) [
-              | yes d ↦ rw (d, fit, own, inside) (prod-taken x p (leb least 65535 && eqb s least) k)
-              | no d ↦ rw (unfit r d, getD-set-other choice o r p 4096 d, or-true (ltb (getD choice r 4096) 4096))
-            ]
-
--- the productions below p have had their turn
-pub record Choosing (g : Flat) (cost : List ℕ) (p : ℕ) (choice : List ℕ) : Type 0 where
-  pub below : p ≤ length (g .owners)
+-- `choices`: the rules below r have their first choices, the others none
+pub record Choosing (g : Flat) (cost : List ℕ) (r : ℕ) (choice : List ℕ) : Type 0 where
+  pub below : r ≤ g .rules
   pub room : length choice ≡ 512
-  pub chosen : ChosenBelow (denoted g) (price g) (costsOf cost) p (choicesOf choice)
+  pub done : (q : ℕ) → q < r → FirstBelow (suits (denoted g) (price g) (costsOf cost) q) (length (g .owners)) (ltb (getD choice q 4096) 4096) (getD choice q 4096)
+  pub left : (q : ℕ) → r ≤ q → getD choice q 4096 ≡ 4096
 
 unpicked : (r : ℕ) → _≡_ {A = ℕ} (getD (replicate 512 4096) r 4096) 4096
 unpicked r = elim (decLt r 512) [
@@ -159,28 +145,80 @@ unpicked r = elim (decLt r 512) [
   | no l ↦ List·getD-eq-default (replicate {A = ℕ} 512 4096) 4096 {n = r} (omega (arith, length-replicate {A = ℕ} 512 4096))
 ]
 
+-- none below n passes
+none-first : (f : ℕ → Bool) (n x : ℕ) → ((i : ℕ) → i < n → f i ≡ false) → FirstBelow f n false x
+none-first f n x h = record {
+  below = λ y. absurd (false≢true y);
+  passes = λ y. absurd (false≢true y);
+  first = λ y. absurd (false≢true y);
+  none = λ z. h;
+}
+
 module _ (g : Flat) (cost choice₀ : List ℕ) (ok : Choosable g cost choice₀) where
-  no-choice : (r : ℕ) → getD choice₀ r 4096 ≡ 4096
-  no-choice r = ap (λ z. getD z r 4096) (ok .none) ∙ unpicked r
+  pub choice-links : Linkable (g .owners) (replicate 512 4096) (replicate 4096 4096)
+  choice-links = linkable (g .owners) (ok .well .sizes .prods-high) (λ p l. omega (arith, ok .well .owner p l, ok .well .sizes .rules-high))
 
   pub choosing-start : Choosing g cost 0 choice₀
-  unfolding choicesOf
   choosing-start = record {
     below = omega arith;
     room = ap length (ok .none) ∙ length-replicate {A = ℕ} 512 4096;
-    chosen = λ r. subst (λ b. FirstBelow (suits (denoted g) (price g) (costsOf cost) r) 0 b (getD choice₀ r 4096)) (sym (le-ltb (getD choice₀ r 4096) 4096 (omega (arith, no-choice r)))) (chosen-none (denoted g) (price g) (costsOf cost) (λ q. getD choice₀ q 4096) r);
+    done = λ q l. absurd (omega arith);
+    left = λ q l. ap (λ z. getD z q 4096) (ok .none) ∙ unpicked q;
   }
 
-  module _ (p : ℕ) (choice : List ℕ) (c : Choosing g cost p choice) where
-    pub choosing-ready : p < length (g .owners) → ChoiceReady g p cost choice
-    choosing-ready l = record { well = ok .well; isProd = l; long = ok .long; room = c .room }
+  module _ (head next : List ℕ) (links : Linked (g .owners) head next 0) (r : ℕ) (choice : List ℕ) (c : Choosing g cost r choice) where
+    pub choosing-end : g .rules ≤ r → FirstChoices g cost choice
+    unfolding choicesOf
+    choosing-end l = record { room = c .room; chosen = chosen-all (denoted g) (price g) (costsOf cost) (choicesOf choice) all }
+      where
+        all : (q : ℕ) → FirstBelow (suits (denoted g) (price g) (costsOf cost) q) (length (g .owners)) (ltb (getD choice q 4096) 4096) (getD choice q 4096)
+        all q = elim (decLt q r) [
+          | yes k ↦ c .done q k
+          | no k ↦ subst (λ b. FirstBelow (suits (denoted g) (price g) (costsOf cost) q) (length (g .owners)) b (getD choice q 4096)) (sym (le-ltb (getD choice q 4096) 4096 (omega (arith, c .left q (omega arith)))))
+              (none-first _ _ _ (λ p lp. unfit g cost q p (λ e. omega (arith, ok .well .owner p lp))))
+        ]
 
-    pub choosing-on : (to : List ℕ) → p < length (g .owners) → ChoiceBecame g p cost choice to → Choosing g cost (p + 1) to
-    choosing-on to l b = record {
-      below = omega arith;
-      room = b .long ∙ c .room;
-      chosen = λ r. rw (add-one p, b .has r, b .prod r) (chosen-more (denoted g) (price g) (costsOf cost) p (choicesOf choice) (c .chosen) r);
-    }
+    module _ (l : r < g .rules) where
+      pub choice-place : r < 512
+      choice-place = omega (arith, ok .well .sizes .rules-high)
 
-    pub choosing-end : length (g .owners) ≤ p → FirstChoices g cost choice
-    choosing-end l = record { room = c .room; chosen = chosen-all (denoted g) (price g) (costsOf cost) (choicesOf choice) (subst (λ n. ChosenBelow (denoted g) (price g) (costsOf cost) n (choicesOf choice)) {x = p} {y = length (g .owners)} (omega (arith, c .below)) (c .chosen)) }
+      module _ (p : ℕ) (ep : p ≡ at head r) where
+        lowest : Leads (g .owners) r 0 p
+        lowest = rw ep (links .heads r choice-place)
+
+        pub choosing-ready : FromReady g next cost r p
+        choosing-ready = record {
+          well = ok .well;
+          cost-long = ok .long;
+          next-long = links .next-long;
+          nexts = λ q lq. links .nexts q (omega arith) lq;
+          isRule = l;
+          owns = lowest .owns;
+        }
+
+        module _ (x : ℕ) (f : CheapestFrom g cost r p x) where
+          -- productions before the rule's first are other rules'
+          before : (q : ℕ) → q < x → q < length (g .owners) → suits (denoted g) (price g) (costsOf cost) r q ≡ false
+          before q lq lp = elim (decLt q p) [
+            | yes k ↦ unfit g cost r q (lowest .least q (omega arith) k lp)
+            | no k ↦ f .first q (omega arith) lq lp
+          ]
+
+          chosen : FirstBelow (suits (denoted g) (price g) (costsOf cost) r) (length (g .owners)) (ltb x 4096) x
+          chosen = record {
+            below = λ t. f .isProd (ltb-true x 4096 t);
+            passes = λ t. f .costs (ltb-true x 4096 t);
+            first = λ t i li. before i li (omega (arith, f .isProd (ltb-true x 4096 t)));
+            none = λ t i li. before i (omega (arith, ltb-false x 4096 t, ok .well .sizes .prods-high)) li;
+          }
+
+          pub choosing-on : Choosing g cost (r + 1) (set choice r x)
+          choosing-on = record {
+            below = omega arith;
+            room = length-set choice r x ∙ c .room;
+            done = λ q lq. elim (ℕ-discrete q r) [
+              | yes e ↦ rw (e, getD-set-same choice r x 4096 (omega (arith, choice-place, c .room))) chosen
+              | no d ↦ rw (getD-set-other choice r q x 4096 d) (c .done q (omega arith))
+            ];
+            left = λ q lq. getD-set-other choice r q x 4096 (omega arith) ∙ c .left q (omega arith);
+          }

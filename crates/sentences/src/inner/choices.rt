@@ -1,31 +1,42 @@
-// First choices: each rule's lowest-numbered production whose cost equals the rule's, in one pass over the productions.
+// First choices: a rule's cost, and then its productions, going up, to the first that has it.
 use costs::inner::entry_at;
 use costs::inner::sum;
+use grammar::inner::links;
 use grammar::inner::prod_at;
+use grammar::inner::wide;
 ghost use Rattle.grammar.specs.Flat.{flat};
-ghost use Rattle.sentences.specs.Choosing.{ChoiceReady, ChoiceBecame, Choosable, FirstChoices};
+ghost use Rattle.sentences.specs.Choosing.{FromReady, CheapestFrom, Choosable, FirstChoices};
 
-// Production p becomes its owner's first choice if it costs what the owner does and the owner has none yet.
-fn choice_step(
+// Finds the cost of rule r, then goes up its productions from p on to the first that has it; 4096 where none has.
+fn cheapest_from(
     rules: u16,
     owners: &[u16],
     starts: &[u16],
     symbols: &[u16],
     costs: &[u8],
-    p: usize,
+    next: &[u16; 4096],
     cost: &[u32],
-    choice: &mut [u16; 512],
-)
-    requires { ⌜ ChoiceReady (flat rules (now owners) (now starts) (now symbols) (now costs)) p (now cost) (now choice) ⌝ }
-    ensures { λ _. ⌜ ChoiceBecame (flat rules (now (owners .entry)) (now (starts .entry)) (now (symbols .entry)) (now (costs .entry))) p (now (cost .entry)) (now (choice .entry)) (now (choice .exit)) ⌝ }
+    r: usize,
+    p: usize,
+) -> usize
+    requires { ⌜ FromReady (flat rules (now owners) (now starts) (now symbols) (now costs)) (now next) (now cost) r p ⌝ }
+    ensures { λ x. ⌜ CheapestFrom (flat rules (now (owners .entry)) (now (starts .entry)) (now (symbols .entry)) (now (costs .entry))) (now (cost .entry)) r p x ⌝ }
 {
-    let q = prod_at(owners, starts, p);
-    let owner = q.owner;
-    let least = entry_at(cost, owner);
-    let s = sum(symbols, costs, q.from, q.to, cost);
-    if (least <= 65535) & (s == least) & (4096 <= choice[owner]) {
-        choice[owner] = p as u16;
+    let least = entry_at(cost, r);
+    if 65535 < least {
+        return 4096;
     }
+    let mut q = p;
+    while q < owners.len() {
+        let x = prod_at(owners, starts, q);
+        let s = sum(symbols, costs, x.from, x.to, cost);
+        let after = wide(next[q]);
+        if s == least {
+            return q;
+        }
+        q = after;
+    }
+    4096
 }
 
 // Leaves each rule's first choice, 4096 for a rule without one.
@@ -41,7 +52,12 @@ pub fn choices(
     requires { ⌜ Choosable (flat rules (now owners) (now starts) (now symbols) (now costs)) (now cost) (now choice) ⌝ }
     ensures { λ _. ⌜ FirstChoices (flat rules (now (owners .entry)) (now (starts .entry)) (now (symbols .entry)) (now (costs .entry))) (now (cost .entry)) (now (choice .exit)) ⌝ }
 {
-    for p in 0..owners.len() {
-        choice_step(rules, owners, starts, symbols, costs, p, cost, choice);
+    let mut head = [4096; 512];
+    let mut next = [4096; 4096];
+    links(owners, &mut head, &mut next);
+    for r in 0..wide(rules) {
+        let p = wide(head[r]);
+        let x = cheapest_from(rules, owners, starts, symbols, costs, &next, cost, r, p);
+        choice[r] = x as u16;
     }
 }

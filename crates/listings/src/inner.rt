@@ -1,0 +1,2 @@
+// All cheapest sentences below the public calls.
+pub mod counts;

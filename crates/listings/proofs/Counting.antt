@@ -263,6 +263,9 @@ module _ (g : Flat) (next cost choice : List ℕ) (levels r : ℕ) (old olds : L
         pub ruling-entry : r < length counts
         ruling-entry = omega (arith, rule-entry, ruling-long)
 
+        pub ruling-long-set : length (set counts r total) ≡ length old
+        ruling-long-set = length-set counts r total ∙ ruling-long
+
         -- all are counted
         pub ruling-end : length (g .owners) ≤ q → RuleCounts g cost levels r old total (set counts r total) shallow
         ruling-end l =

@@ -75,6 +75,53 @@ level-entry ws r = refl
 keeps-then : (a b c : List ℕ) → Keeps (countsOf a) (countsOf b) → Keeps (countsOf b) (countsOf c) → Keeps (countsOf a) (countsOf c)
 keeps-then a b c u v r l = v r (omega (arith, u r l)) ∙ u r l
 
+-- what a rule's entry of the first choices says
+module _ (g : Flat) (next cost choice : List ℕ) (gr : Ground g next cost choice) (r : ℕ) (isRule : r < g .rules) (p : ℕ) (ep : p ≡ at choice r) where
+  pub choice-place : r < 512
+  choice-place = omega (arith, isRule, gr .well .sizes .rules-high)
+
+  choice-entry : getD choice r 4096 ≡ p
+  choice-entry = default-same choice r 4096 0 (omega (arith, choice-place, gr .picks .room)) ∙ sym ep
+
+  -- a rule with a cost has one
+  pub choice-low : costsOf cost r ≤ 65535 → p < 4096
+  unfolding choicesOf
+  choice-low le =
+      let d = priced-choice (denoted g) (price g) (costsOf cost) (proper g (gr .well)) (gr .prices .exact) r le in
+      omega (arith, ltb-true (getD choice r 4096) 4096 (gr .picks .chosen .all r (d .0) (d .1)), choice-entry)
+
+  pub choice-is : p < 4096 → Choice (denoted g) (price g) (costsOf cost) r p
+  unfolding choicesOf
+  choice-is l = subst (λ z. Choice (denoted g) (price g) (costsOf cost) r z) choice-entry (gr .picks .chosen .is r (lt-ltb (getD choice r 4096) 4096 (omega (arith, choice-entry))))
+
+-- the next cheapest production of a rule, from one of its productions
+module _ (g : Flat) (next cost choice : List ℕ) (gr : Ground g next cost choice) (r : ℕ) (isRule : r < g .rules) (q : ℕ) (c : Cheapest (denoted g) (price g) (costsOf cost) r q) (after : ℕ) (ea : after ≡ at next q) where
+  leads : Leads (g .owners) r (q + 1) after
+  leads = rw ea (subst (λ z. Leads (g .owners) z (q + 1) (at next q)) (c .owns) (gr .links .nexts q (c .isProd)))
+
+  pub next-from : FromReady g next cost r after
+  next-from = record {
+    well = gr .well;
+    cost-long = gr .prices .long;
+    next-long = gr .links .long;
+    nexts = gr .links .nexts;
+    isRule = isRule;
+    owns = leads .owns;
+  }
+
+  module _ (to : ℕ) (f : CheapestFrom g cost r after to) where
+    pub next-above : q + 1 ≤ min to (length (g .owners))
+    next-above = elim (decLt to 4096) [ yes m ↦ omega (arith, f .low m, leads .low, c .isProd) | no m ↦ omega (arith, c .isProd, gr .well .sizes .prods-high) ]
+
+    pub next-between : (j : ℕ) → q + 1 ≤ j → j < min to (length (g .owners)) → suits (denoted g) (price g) (costsOf cost) r j ≡ false
+    next-between j u v = elim (decLt j after) [
+      | yes m ↦ unfit g cost r j (leads .least j u m (omega arith))
+      | no m ↦ f .first j (omega arith) (omega arith) (omega arith)
+    ]
+
+    pub next-less : length (g .owners) - to < length (g .owners) - q
+    next-less = omega (arith, next-above, c .isProd)
+
 -- a production: the symbols from a up to i are counted
 pub record Producing (g : Flat) (cost : List ℕ) (levels a e : ℕ) (old : List ℕ) (i n : ℕ) (counts shallow : List ℕ) : Type 0 where
   pub low : a ≤ i
@@ -207,30 +254,12 @@ module _ (g : Flat) (next cost choice : List ℕ) (levels r : ℕ) (old olds : L
   rule-known n en k = record { on = stays; known = λ _. count-entry old r rule-entry ∙ sym en; none = λ z. absurd (omega arith) }
 
   module _ (n : ℕ) (en : n ≡ at old r) (unknown : 65536 < n) (p : ℕ) (ep : p ≡ at choice r) (s : ℕ) (es : s ≡ at olds r) where
-    -- a rule with a cost has a first choice
-    first : costsOf cost r ≤ 65535 → (choicesOf choice .has r ≡ true)
-    first le =
-        let d = priced-choice (denoted g) (price g) (costsOf cost) (proper g (ok .ground .well)) (ok .ground .prices .exact) r le in
-        ok .ground .picks .chosen .all r (d .0) (d .1)
-
-    picked : choicesOf choice .prod r ≡ p
-    unfolding choicesOf
-    picked = default-same choice r 4096 0 (omega (arith, rule-place, ok .ground .picks .room)) ∙ sym ep
-
-    has-low : choicesOf choice .has r ≡ true → p < 4096
-    unfolding choicesOf
-    has-low e = omega (arith, ltb-true (getD choice r 4096) 4096 e, default-same choice r 4096 0 (omega (arith, rule-place, ok .ground .picks .room)), ep)
-
-    low-has : p < 4096 → choicesOf choice .has r ≡ true
-    unfolding choicesOf
-    low-has l = lt-ltb (getD choice r 4096) 4096 (omega (arith, default-same choice r 4096 0 (omega (arith, rule-place, ok .ground .picks .room)), ep))
-
     -- it has no cost, or these levels are known to be too few
     pub rule-none : (leb 4096 p || leb levels s) ≡ true → RuleCounts g cost levels r old 65537 old olds
     rule-none f = record { on = stays; known = λ z. absurd (omega arith); none = λ _. elim (or-split (leb 4096 p) (leb levels s) f) [ inl u ↦ dear (leb-true 4096 p u) | inr u ↦ ok .begun .held .shallow r levels (omega (arith, leb-true levels s u, level-entry olds r, es)) ] }
       where
         dear : 4096 ≤ p → deepBy g cost levels r ≡ false
-        dear l = shallow-dear (denoted g) (price g) (costsOf cost) levels r (elim (decLe (costsOf cost r) 65535) [ yes le ↦ absurd (omega (arith, has-low (first le))) | no m ↦ omega arith ])
+        dear l = shallow-dear (denoted g) (price g) (costsOf cost) levels r (elim (decLe (costsOf cost r) 65535) [ yes le ↦ absurd (omega (arith, choice-low g next cost choice (ok .ground) r (ok .isRule) p ep le)) | no m ↦ omega arith ])
 
     module _ (f : (leb 4096 p || leb levels s) ≡ false) where
       is-prod : p < 4096
@@ -240,7 +269,7 @@ module _ (g : Flat) (next cost choice : List ℕ) (levels r : ℕ) (old olds : L
       rule-level = omega (arith, leb-false levels s (or-none (leb 4096 p) (leb levels s) f .1))
 
       choice-of : Choice (denoted g) (price g) (costsOf cost) r p
-      choice-of = subst (λ z. Choice (denoted g) (price g) (costsOf cost) r z) picked (ok .ground .picks .chosen .is r (low-has is-prod))
+      choice-of = choice-is g next cost choice (ok .ground) r (ok .isRule) p ep is-prod
 
       pub ruling-start : Ruling g cost r old p 0 old olds
       ruling-start =
@@ -342,34 +371,18 @@ module _ (g : Flat) (next cost choice : List ℕ) (levels r : ℕ) (old olds : L
                 ruling-caps = (x .cap, k)
 
                 module _ (n′ : ℕ) (en′ : n′ ≡ at next q) where
-                  owner : at (g .owners) q ≡ r
-                  owner = cheapest .owns
-
-                  leads : Leads (g .owners) r (q + 1) n′
-                  leads = rw en′ (subst (λ z. Leads (g .owners) z (q + 1) (at next q)) owner (ok .ground .links .nexts q l))
-
                   pub ruling-from : FromReady g next cost r n′
-                  ruling-from = record {
-                    well = ok .ground .well;
-                    cost-long = ok .ground .prices .long;
-                    next-long = ok .ground .links .long;
-                    nexts = ok .ground .links .nexts;
-                    isRule = ok .isRule;
-                    owns = leads .owns;
-                  }
+                  ruling-from = next-from g next cost choice (ok .ground) r (ok .isRule) q cheapest n′ en′
 
                   module _ (to : ℕ) (c : CheapestFrom g cost r n′ to) where
                     above : q + 1 ≤ min to (length (g .owners))
-                    above = elim (decLt to 4096) [ yes m ↦ omega (arith, c .low m, leads .low, l) | no m ↦ omega (arith, l, ruling-place) ]
+                    above = next-above g next cost choice (ok .ground) r (ok .isRule) q cheapest n′ en′ to c
 
                     between : (j : ℕ) → q + 1 ≤ j → j < min to (length (g .owners)) → suits (denoted g) (price g) (costsOf cost) r j ≡ false
-                    between j u v = elim (decLt j n′) [
-                      | yes m ↦ unfit g cost r j (leads .least j u m (omega arith))
-                      | no m ↦ c .first j (omega arith) (omega arith) (omega arith)
-                    ]
+                    between = next-between g next cost choice (ok .ground) r (ok .isRule) q cheapest n′ en′ to c
 
                     pub ruling-less : length (g .owners) - to < length (g .owners) - q
-                    ruling-less = omega (arith, above, l)
+                    ruling-less = next-less g next cost choice (ok .ground) r (ok .isRule) q cheapest n′ en′ to c
 
                     pub ruling-on : (sum : ℕ) → sum ≡ min (total + y) 65536 → Ruling g cost r old to sum counts′ shallow′
                     ruling-on sum es′ =

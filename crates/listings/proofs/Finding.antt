@@ -39,14 +39,14 @@ zeros-front (suc m) n [] e le = absurd (omega arith)
 zeros-front (suc m) zero (b ∷ bs) e le = absurd (omega arith)
 zeros-front (suc m) (suc n) (b ∷ bs) e le = ap (λ z. 0 ∷ z) (zeros-front m n bs (omega arith) (omega arith))
 
+-- p is a cheapest production, and number k is number `left` from its first on
+pub record Finding (g : Flat) (cost : List ℕ) (levels r k p left : ℕ) (todo : List ℕ) : Type 0 where
+  pub cheapest : Cheapest (denoted g) (price g) (costsOf cost) r p
+  pub number : k ≡ length (below (denoted g) (price g) (costsOf cost) (listsBy g cost levels) r p) + left
+  pub begun : todo ≡ replicate 16 0
+
 -- the rules inside number k's rule: within one level less, their counts those of their lists
 module _ (g : Flat) (next cost choice counts : List ℕ) (levels r k : ℕ) (ok : Numbered g next cost choice counts (levels + 1) r k) where
-  abbrev c : ℕ → ℕ
-  c = costsOf cost
-
-  abbrev n : ℕ → ℕ
-  n = countsOf counts
-
   pub deep-here : deepBy g cost (suc levels) r ≡ true
   deep-here = subst (λ (z : ℕ). deepBy g cost z r ≡ true) {x = levels + 1} {y = suc levels} (omega arith) (ok .within)
 
@@ -73,17 +73,11 @@ module _ (g : Flat) (next cost choice counts : List ℕ) (levels r k : ℕ) (ok 
   pub ways-few : (p : ℕ) → Cheapest (denoted g) (price g) (costsOf cost) r p → formWays (countsOf counts) (denoted g .body p) ≤ 65535
   ways-few p h = omega (arith, counted-ways (denoted g) (price g) (costsOf cost) (proper g (ok .ground .well)) (ok .ground .prices .exact) (countsOf counts) (ok .counts-defined .exact) r (ok .few) p h, ok .few)
 
-  -- p is a cheapest production, and number k is number `left` from its first on
-  pub record Finding (p left : ℕ) (todo : List ℕ) : Type 0 where
-    pub cheapest : Cheapest (denoted g) (price g) (costsOf cost) r p
-    pub number : k ≡ length (below (denoted g) (price g) (costsOf cost) (listsBy g cost levels) r p) + left
-    pub begun : todo ≡ replicate 16 0
-
   pub find-place : r < 512
   find-place = omega (arith, ok .isRule, ok .ground .well .sizes .rules-high)
 
-  pub find-start : (p : ℕ) (todo : List ℕ) → p ≡ at choice r → todo ≡ replicate 16 0 → Finding p k todo
-  find-start p todo ep b =
+  pub find-start : (todo : List ℕ) → todo ≡ replicate 16 0 → (p : ℕ) → p ≡ at choice r → Finding g cost levels r k p k todo
+  find-start todo b p ep =
       let low = choice-low g next cost choice (ok .ground) r (ok .isRule) p ep (deep-priced (denoted g) (price g) (costsOf cost) (suc levels) r deep-here) in
       let d = choice-is g next cost choice (ok .ground) r (ok .isRule) p ep low in
       record {
@@ -92,7 +86,7 @@ module _ (g : Flat) (next cost choice counts : List ℕ) (levels r k : ℕ) (ok 
         begun = b;
       }
 
-  module _ (p left : ℕ) (todo : List ℕ) (x : Finding p left todo) where
+  module _ (p left : ℕ) (todo : List ℕ) (x : Finding g cost levels r k p left todo) where
     is-prod : p < length (g .owners)
     is-prod = x .cheapest .isProd
 
@@ -201,7 +195,7 @@ module _ (g : Flat) (next cost choice counts : List ℕ) (levels r k : ℕ) (ok 
               pub find-less : length (g .owners) - q < length (g .owners) - p
               find-less = next-less g next cost choice (ok .ground) r (ok .isRule) p (x .cheapest) after en q f
 
-              pub find-on : Finding q rest to
+              pub find-on : Finding g cost levels r k q rest to
               find-on =
                   let l = f .isProd is-low in
                   let m : min q (length (g .owners)) ≡ q = omega arith in

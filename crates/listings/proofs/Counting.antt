@@ -301,7 +301,7 @@ module _ (g : Flat) (next cost choice : List ℕ) (levels r : ℕ) (old olds : L
             let m : min q (length (g .owners)) ≡ length (g .owners) = omega arith in
             let d : deepBy g cost (suc (g .rules)) r ≡ true = and-join (le-leb (costsOf cost r) 65535 (choice-of .priced)) (sym (ap (λ (z : ℕ). allBelow (denoted g) (price g) (costsOf cost) (deepBy g cost (g .rules)) r z) m) ∙ x .straight) in
             let k : Count (denoted g) (price g) (costsOf cost) r total = subst (λ z. Count (denoted g) (price g) (costsOf cost) r z) (sym (x .ways ∙ ap (λ (z : ℕ). min (ruleWays (denoted g) (price g) (costsOf cost) (manyBy g cost) r z) 65536) m))
-                    (counting-rule (denoted g) (price g) (costsOf cost) (proper g (ok .ground .well)) (ok .ground .prices .exact) (g .rules) r d) in
+            (counting-rule (denoted g) (price g) (costsOf cost) (proper g (ok .ground .well)) (ok .ground .prices .exact) (g .rules) r d) in
             record {
               on = record {
                 begun = record {
@@ -352,7 +352,7 @@ module _ (g : Flat) (next cost choice : List ℕ) (levels r : ℕ) (old olds : L
               pub ruling-fails : 65536 < y → RuleCounts g cost levels r old 65537 counts′ (set shallow′ r levels)
               ruling-fails k =
                   let d : deepBy g cost levels r ≡ false = subst (λ (z : ℕ). deepBy g cost z r ≡ false) {x = suc (levels - 1)} {y = levels} (omega (arith, rule-level))
-                          (shallow-at (denoted g) (price g) (costsOf cost) (levels - 1) r q cheapest (subst (λ z. allMarked (deepBy g cost (levels - 1)) z ≡ false) (sym (at-prod .body)) (h .none k))) in
+                  (shallow-at (denoted g) (price g) (costsOf cost) (levels - 1) r q cheapest (subst (λ z. allMarked (deepBy g cost (levels - 1)) z ≡ false) (sym (at-prod .body)) (h .none k))) in
                   record {
                     on = record {
                       begun = record {
@@ -392,7 +392,7 @@ module _ (g : Flat) (next cost choice : List ℕ) (levels r : ℕ) (old olds : L
                         let b : allMarked (deepBy g cost (g .rules)) (denoted g .body q) ≡ true = ap (allMarked (deepBy g cost (g .rules))) (at-prod .body) ∙ h .within k in
                         let before : allBelow (denoted g) (price g) (costsOf cost) (deepBy g cost (g .rules)) r q ≡ true = sym (ap (λ (z : ℕ). allBelow (denoted g) (price g) (costsOf cost) (deepBy g cost (g .rules)) r z) m) ∙ x .straight in
                         let v : ruleWays (denoted g) (price g) (costsOf cost) (manyBy g cost) r (suc q) ≡ ruleWays (denoted g) (price g) (costsOf cost) (manyBy g cost) r q + formWays (manyBy g cost) (form (g .symbols) a e) =
-                                ap (λ z. ruleWays (denoted g) (price g) (costsOf cost) (manyBy g cost) r q + cond z (formWays (manyBy g cost) (denoted g .body q)) 0) (x .suit l) ∙ ap (λ z. ruleWays (denoted g) (price g) (costsOf cost) (manyBy g cost) r q + formWays (manyBy g cost) z) (at-prod .body) in
+                        ap (λ z. ruleWays (denoted g) (price g) (costsOf cost) (manyBy g cost) r q + cond z (formWays (manyBy g cost) (denoted g .body q)) 0) (x .suit l) ∙ ap (λ z. ruleWays (denoted g) (price g) (costsOf cost) (manyBy g cost) r q + formWays (manyBy g cost) z) (at-prod .body) in
                         record {
                           on = on-then;
                           cap = omega arith;

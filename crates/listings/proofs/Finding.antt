@@ -56,8 +56,7 @@ module _ (g : Flat) (next cost choice counts : List ℕ) (levels r k : ℕ) (ok 
   pub inside-exact : (q : ℕ) → Cheap.Leads (denoted g) (price g) (costsOf cost) r q → (countsOf counts q ≡ length (listsBy g cost levels q)) × (countsOf counts q ≤ 65535)
   inside-exact q u =
       let d = inside q u in
-      let e = parts-exact (denoted g) (price g) (costsOf cost) (proper g (ok .ground .well)) (ok .ground .prices .exact) (countsOf counts) (ok .counts-defined .exact) r (ok .few) q u in
-      (
+      let e = parts-exact (denoted g) (price g) (costsOf cost) (proper g (ok .ground .well)) (ok .ground .prices .exact) (countsOf counts) (ok .counts-defined .exact) r (ok .few) q u in (
         e .0 ∙ ap length (listing-same (denoted g) (price g) (costsOf cost) (g .rules) levels q (deep-enough (denoted g) (price g) (costsOf cost) (proper g (ok .ground .well)) (ok .ground .prices .exact) levels q d) d),
         omega (arith, e .1, ok .few),
       )

@@ -79,13 +79,13 @@ module _ (symbols : List ℕ) (a e : ℕ) (counts old : List ℕ) (ok : PlacesRe
             placing-more =
                 let shown : take (m + 1) (set bases m n) ≡ take m bases ++ (n ∷ []) = rw add-one (take-suc-set bases m n (omega (arith, placing-place, x .room))) in
                 record {
-              low = omega (arith, x .low);
-              high = omega arith;
-              most = omega (arith, placing-place);
-              room = length-set bases m n ∙ x .room;
-              is =
-                  ap (λ z. z ++ places (countsOf counts) (form symbols (i + 1) e)) shown
-                  ∙ append-assoc (take m bases) (n ∷ []) (places (countsOf counts) (form symbols (i + 1) e))
-                  ∙ ap (λ z. take m bases ++ z) (sym more)
-                  ∙ x .is;
-            }
+                  low = omega (arith, x .low);
+                  high = omega arith;
+                  most = omega (arith, placing-place);
+                  room = length-set bases m n ∙ x .room;
+                  is =
+                      ap (λ z. z ++ places (countsOf counts) (form symbols (i + 1) e)) shown
+                      ∙ append-assoc (take m bases) (n ∷ []) (places (countsOf counts) (form symbols (i + 1) e))
+                      ∙ ap (λ z. take m bases ++ z) (sym more)
+                      ∙ x .is;
+                }

@@ -1,12 +1,12 @@
 -- All cheapest sentences: the working tables are filled, then the sentences are counted, or number i is written, or 12 to 16 given.
-use mathlib.Core.Bool.{_||_}
+use mathlib.Core.Bool.{not, _||_}
 use mathlib.Core.List.{List}
 use mathlib.Core.Logic.{_⊎_}
 use mathlib.Core.Path.{_≡_}
 use Prim.Native.Nat.{ℕ, _≤_, _<_}
-use lib.Dec.{leb}
+use lib.Dec.{eqb, leb}
 use lib.ListN.{length, getD}
-use Rattle.theory.specs.Definitions.{Sentence, costOf, Productive, Cost}
+use Rattle.theory.specs.Definitions.{Sentence, costOf, Productive}
 use Rattle.theory.specs.Visits.{Costs}
 use Rattle.theory.specs.Cheapest.{Circular}
 use Rattle.theory.specs.Listing.{listed, sentenceAt}
@@ -15,7 +15,7 @@ use Rattle.grammar.specs.Flat.{Flat, denoted, price}
 use Rattle.grammar.specs.Outcome.{Outcome, answers, refused, unless}
 use Rattle.grammar.specs.Refusals.{unlessDue}
 use Rattle.tables.specs.Call.{Call}
-use Rattle.tables.specs.Sizes.{rowWrong, numbersWrong}
+use Rattle.tables.specs.Sizes.{words}
 use Rattle.costs.specs.Lent.{costsOf}
 use Rattle.costs.specs.Defined.{ProductiveDefined, CostDefined}
 use Rattle.sentences.specs.declared.Length.{Length as Answer}
@@ -55,12 +55,15 @@ pub record Final (g : Flat) (w : Work) : Type 0 where
   pub lengths : LengthsDefined g (costsOf (w .cost)) (w .lengths)
   pub counts : CountsDefined g (costsOf (w .cost)) (w .counts)
 
--- 7: a lent table is not of its exact length; 9: the rule's number is R or more
-abbrev pub allDue : Flat → ℕ → Work → Outcome (Unit {0})
-allDue g r w =
+-- 7: a lent table is not of its exact length; 9: the rule's number is R or more. By the lengths of the tables
+abbrev pub dueBy : Flat → ℕ → (productive cost lengths counts : ℕ) → Outcome (Unit {0})
+dueBy g r productive cost lengths counts =
     unlessDue g
-    (unless (rowWrong (g .rules) (w .productive) || (numbersWrong (g .rules) (w .cost) || (numbersWrong (g .rules) (w .lengths) || numbersWrong (g .rules) (w .counts)))) 7
+    (unless (not (eqb productive (words (g .rules))) || (not (eqb cost (g .rules)) || (not (eqb lengths (g .rules)) || not (eqb counts (g .rules))))) 7
     (unless (leb (g .rules) r) 9 (answers tt)))
+
+abbrev pub allDue : Flat → ℕ → Work → Outcome (Unit {0})
+allDue g r w = dueBy g r (length (w .productive)) (length (w .cost)) (length (w .lengths)) (length (w .counts))
 
 -- rule r has a cost and is not circular, `c` being the COST table: it has a list
 pub record Lists (g : Flat) (c : Costs) (r : ℕ) : Type 0 where

@@ -82,6 +82,23 @@ entered g rule productive cost lengths counts d =
       isRule = leb-false (g .rules) rule (v .0);
     }
 
+-- what the answers ask, once the tables are final
+module _ (g : Flat) (r productive cost lengths counts : ℕ) (d : Checked) (is : checkedIs d ≡ dueBy g r productive cost lengths counts) (e : d ≡ Well) (productive′ cost′ next′ choice′ lengths′ counts′ : List ℕ) (w : Worked g productive′ cost′ next′ choice′ lengths′ counts′) where
+  asked : Entered g r productive cost lengths counts
+  asked = entered g r productive cost lengths counts (sym is ∙ ap checkedIs e)
+
+  pub ask-count : CountReady g r productive′ cost′ counts′
+  ask-count = record {
+    well = asked .wellFormed;
+    productive-defined = w .final .productive;
+    cost-defined = w .final .cost;
+    counts-defined = w .final .counts;
+    isRule = asked .isRule;
+  }
+
+  pub ask-number : NumberReady g r productive′ cost′ next′ choice′ lengths′ counts′
+  ask-number = record { well = asked .wellFormed; worked = w; isRule = asked .isRule }
+
 -- both calls, r being the rule asked for
 module _ (g : Flat) (rule : ℕ) (productive cost lengths counts : List ℕ) (r : ℕ) (er : r ≡ rule) (d : Checked) (is : checkedIs d ≡ dueBy g r (length productive) (length cost) (length lengths) (length counts)) where
   due-is : checkedIs d ≡ allDue g rule (work productive cost lengths counts)
@@ -116,18 +133,6 @@ module _ (g : Flat) (rule : ℕ) (productive cost lengths counts : List ℕ) (r 
     }
 
     module _ (productive′ cost′ next′ choice′ lengths′ counts′ : List ℕ) (w : Worked g productive′ cost′ next′ choice′ lengths′ counts′) where
-      pub ask-count : CountReady g r productive′ cost′ counts′
-      ask-count = record {
-        well = known .wellFormed;
-        productive-defined = w .final .productive;
-        cost-defined = w .final .cost;
-        counts-defined = w .final .counts;
-        isRule = known .isRule;
-      }
-
-      pub ask-number : NumberReady g r productive′ cost′ next′ choice′ lengths′ counts′
-      ask-number = record { well = known .wellFormed; worked = w; isRule = known .isRule }
-
       pub ask-counted : (said : Outcome ℕ) → Counts g (costsOf cost′) r said → Call (allDue g rule (work productive cost lengths counts)) (CountDone g rule) (work productive cost lengths counts) said (work productive′ cost′ lengths′ counts′)
       ask-counted said s = call-does said (work productive′ cost′ lengths′ counts′) done (record { final = w .final; counts = rw er at s })
 

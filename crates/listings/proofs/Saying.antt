@@ -181,10 +181,10 @@ module _ (g : Flat) (r : ℕ) (row cost next choice lengths counts : List ℕ) (
   ground : Ground g next cost choice
   ground = record { well = ok .well; links = ok .worked .links; prices = ok .worked .final .cost; picks = ok .worked .picks }
 
-  module _ (a : Counted) (said : Counts g (costsOf cost) r (countedIs a)) (k : ℕ) (out : List ℕ) where
+  module _ (a : Counted) (said : Counts g (costsOf cost) r (countedIs a)) (k : ℕ) where
     -- a refused count is refused here too
-    pub number-refused : (n m : ℕ) → a ≡ Not n → m ≡ refusalOf a → Numbers g (costsOf cost) r k out (refused m) out
-    number-refused n m e q = record {
+    pub number-refused : (out : List ℕ) (n m : ℕ) → a ≡ Not n → m ≡ refusalOf a → Numbers g (costsOf cost) r k out (refused m) out
+    number-refused out n m e q = record {
       none = λ h. same 12 (said .none h);
       dear = λ h s. same 13 (said .dear h s);
       circular = λ y. same 14 (said .circular y);
@@ -223,8 +223,8 @@ module _ (g : Flat) (r : ℕ) (row cost next choice lengths counts : List ℕ) (
       total-of : total ≡ manyBy g cost r
       total-of = total-is lists (few lists)
 
-      pub number-past : total ≤ k → Numbers g (costsOf cost) r k out (refused 16) out
-      number-past i = record {
+      pub number-past : (out : List ℕ) → total ≤ k → Numbers g (costsOf cost) r k out (refused 16) out
+      number-past out i = record {
         none = λ h. absurd (not-both (sym told ∙ said .none h));
         dear = λ h s. absurd (not-both (sym told ∙ said .dear h s));
         circular = λ y. absurd (lists .straight y);
@@ -258,7 +258,7 @@ module _ (g : Flat) (r : ℕ) (row cost next choice lengths counts : List ℕ) (
         words-are : ruleWords g cost n r k ≡ sentenceAt (denoted g) (price g) (costsOf cost) r k
         words-are = ap (λ (z : ℕ). ruleWords g cost z r k) en
 
-        module _ (long : ℕ) (el : long ≡ min (length (ruleWords g cost n r k)) 65536) (s : ℕ) (es : s ≡ long) where
+        module _ (long : ℕ) (el : long ≡ min (length (ruleWords g cost n r k)) 65536) (s : ℕ) (es : s ≡ long) (out : List ℕ) where
           module _ (f : (leb long 65535 && leb s (length out)) ≡ true) where
             short : length (ruleWords g cost n r k) ≡ long
             short = omega (arith, el, leb-true long 65535 (and-split (leb long 65535) _ f .0))

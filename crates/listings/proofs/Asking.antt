@@ -82,6 +82,10 @@ entered g rule productive cost lengths counts d =
       isRule = leb-false (g .rules) rule (v .0);
     }
 
+-- the rule asked for is one of the grammar's
+pub due-rule : (g : Flat) (rule productive cost lengths counts : ℕ) → dueBy g rule productive cost lengths counts ≡ answers tt → rule < g .rules
+due-rule g rule productive cost lengths counts d = entered g rule productive cost lengths counts d .isRule
+
 -- what the answers ask, once the tables are final
 module _ (g : Flat) (r productive cost lengths counts : ℕ) (d : Checked) (is : checkedIs d ≡ dueBy g r productive cost lengths counts) (e : d ≡ Well) (productive′ cost′ next′ choice′ lengths′ counts′ : List ℕ) (w : Worked g productive′ cost′ next′ choice′ lengths′ counts′) where
   asked : Entered g r productive cost lengths counts

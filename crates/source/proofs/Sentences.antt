@@ -21,7 +21,7 @@ use Rattle.theory.specs.Odometer.{product, Fits, Last, zeros, turns, Carrying}
 use Rattle.theory.proofs.Bools.{and-split, and-join, eqb-turned}
 use Rattle.theory.proofs.Sentences.{owner-least, cost-owned}
 use Rattle.theory.proofs.Counts.{listing-some}
-use Rattle.theory.proofs.Depth.{deep-not-circular, deep-or-circular, deep-enough, listing-same}
+use Rattle.theory.proofs.Depth.{deep-priced, deep-not-circular, deep-or-circular, deep-enough, listing-same}
 use Rattle.theory.proofs.Odometer.{turns-below, turns-zeros, turns-last, carry-start, carry-below, carry-fits, carry-turns, carry-on, fits-length}
 use Rattle.source.specs.Costs as Costs
 use Rattle.source.proofs.Order.{prods-all}
@@ -264,6 +264,12 @@ replicate-zeros zero (b ∷ bs) e = absurd (omega arith)
 replicate-zeros (suc n) [] e = absurd (omega arith)
 replicate-zeros (suc n) (b ∷ bs) e = ap (λ z. 0 ∷ z) (replicate-zeros n bs (omega arith))
 
+-- the sentences of rule r's list, in its order
+pub record Same (g : Grammar) (k : ℕ → ℕ) (c : Costs) (r : ℕ) (sts : List (List ℕ)) : Type 0 where
+  pub priced : c r ≤ 65535
+  pub straight : Circular g k c r → ⊥
+  pub is : sts ≡ map (λ i. i .tokens) (listed g k c r)
+
 -- b is the source's list of costs, if it asks for one; c is the COST table; each rule owns a production
 module _ (g : Grammar) (k : ℕ → ℕ) (ok : Proper g) (own : (r : ℕ) → r < g .rules → (p : ℕ) × (p < g .prods) × (g .owner p ≡ r)) (b c : Costs) (x : CostExact g k c) where
   priced : (r : ℕ) → r < g .rules → {ps : List ℕ} → CheapestProds g k b r ps → c r ≤ 65535
@@ -365,11 +371,15 @@ module _ (g : Grammar) (k : ℕ → ℕ) (ok : Proper g) (own : (r : ℕ) → r 
       let o = pushed n (runs-list n) r (g .prods) (omega arith) (subst (λ z. Pushes g (Runs g k b n) z sts) (cheapest-those r lt (y .1)) (y .2)) in
       (and-join (le-leb (c r) 65535 (priced r lt (y .1))) (o .0), o .1)
 
-  -- what `min_sentences` returns for r is the list of r, in its order; and r is not circular
-  pub sentences-same : (r : ℕ) → r < g .rules → (sts : List (List ℕ)) → Returns g k b r sts → (Circular g k c r → ⊥) × (sts ≡ map (λ i. i .tokens) (listed g k c r))
+  -- what `min_sentences` returns for r is the list of r, in its order; and r has a cost and is not circular
+  pub sentences-same : (r : ℕ) → r < g .rules → (sts : List (List ℕ)) → Returns g k b r sts → Same g k c r sts
   sentences-same r lt sts y =
       let o = runs-list (y .0) r lt sts (y .1) in
-      (deep-not-circular g k c (y .0) r (o .0), o .1 ∙ ap words (listing-same g k c (y .0) (g .rules) r (o .0) (deep-enough g k c ok x (y .0) r (o .0))))
+      record {
+        priced = deep-priced g k c (y .0) r (o .0);
+        straight = deep-not-circular g k c (y .0) r (o .0);
+        is = o .1 ∙ ap words (listing-same g k c (y .0) (g .rules) r (o .0) (deep-enough g k c ok x (y .0) r (o .0)));
+      }
 
   -- the other way: the loop comes to its end
   loop-ends : (ms : List (List (List ℕ))) → 0 < length (map length ms) → (fuel : ℕ) (ds : List ℕ) → Fits (map length ms) ds → product (map length ms) ≤ turns (map length ms) ds + fuel → (out : List (List ℕ)) × Loop ms ds out

@@ -324,12 +324,12 @@ def sentence(g, r, room=MOST):
     return expanded(r, choice, known)
 
 
-def endless(choices):
+def circular(choices):
     """The rules that, through these productions, reach or are a rule that so reaches itself."""
     links = {r: {rule for body in bodies for rule in rules_of(body)} for r, bodies in choices.items()}
     below = {r: linked(r, links) for r in links}
-    circular = {r for r in links if r in below[r]}
-    return {r for r in links if r in circular or below[r] & circular}
+    around = {r for r in links if r in below[r]}
+    return {r for r in links if r in around or below[r] & around}
 
 
 def product(numbers):
@@ -338,8 +338,8 @@ def product(numbers):
 
 
 def list_counts(choices):
-    """How many derivations through these productions each rule has that is not endless; 65536 for more than 65535."""
-    known, without = {}, endless(choices)
+    """How many derivations through these productions each rule has that is not circular; 65536 for more than 65535."""
+    known, without = {}, circular(choices)
 
     def count(r):
         if r not in known:
@@ -350,7 +350,7 @@ def list_counts(choices):
 
 
 def sentence_lists(choices, rules):
-    """The whole lists of these rules, which are not endless: productions rising, and within one the last place turning
+    """The whole lists of these rules, which are not circular: productions rising, and within one the last place turning
     fastest."""
     known = {}
 
@@ -398,7 +398,7 @@ class Numbered:
 
 
 def counts(g):
-    """The count entry of each rule: 65536 for more than 65535, 65537 where the list has no end or without cost."""
+    """The count entry of each rule: 65536 for more than 65535, 65537 if circular or without cost."""
     check(g)
     known = list_counts(cheapest(g, known_costs(g)))
     return [known.get(r, MOST + 2) for r in range(g.rules)]

@@ -264,7 +264,7 @@ def any_call(draw):
     name = draw.choice(DRAWN)
     if name == "read_blocks":
         return name, [list(any_file(draw)), *any_lists(draw)]
-    many = name in LISTS and draw.random() < 0.02
+    many = name in LISTS and draw.random() < 0.04
     g = any_grammar(draw, ["many_rows"] if many else TELLING.get(name, QUICK) if draw.random() < 0.6 else QUICK)
     if name == "write_blocks":
         # in some all tokens are dear, so that a block's bytes add up to more than 65535

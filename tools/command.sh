@@ -1,0 +1,17 @@
+# The program of bindings/rust/command, for scripts of bin/ to source; they define `say`, `die` and `root`, the
+# repository's top. It is built where it is older than its sources or the library, and so is the library before it. Then
+# `command` is the program.
+command=$root/target/rust/release/boltmarrow
+if [ ! -x "$command" ] || [ -n "$(find "$root/bindings/rust" "$root/crates" "$root/crates.txt" \
+    "$root/target/staticlib/libboltmarrow.a" -type f -newer "$command" 2>&1 | head -n 1)" ]; then
+    [ "$(uname -m)" = x86_64 ] || die "the library is for x86-64, and this is $(uname -m)"
+    [ -e "$root/target/staticlib/libboltmarrow.a" ] ||
+        say 'proving and building the library, once, which takes some minutes'
+    (
+        cd "$root"
+        . tools/library.sh
+        . tools/rust.sh
+        BOLTMARROW_LIB=$root/target/staticlib CARGO_TARGET_DIR=$root/target/rust cargo build --release --offline --quiet \
+            --manifest-path bindings/rust/command/Cargo.toml && touch "$command"
+    ) </dev/null >&2 || die 'the program is not built'
+fi

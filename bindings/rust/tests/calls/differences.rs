@@ -91,10 +91,10 @@ fn lists_that_would_not_end() {
 
 #[test]
 fn lists_that_are_too_long() {
-    // A: B B; B: nothing 256 times
+    // A: B B; B: a, 256 times
     let mut prods: Vec<(u16, &[u16])> = vec![(0, &[A]), (1, &[B, B])];
-    prods.extend(vec![(2, &[][..]); 256]);
-    let grm = well(3, &prods, &[1]);
+    prods.extend(vec![(2, &[0][..]); 256]);
+    let grm = well(3, &prods, &[1, 1]);
     assert_eq!((count(&grm, 1), count(&grm, 2)), (Err(Refusal::TooMany), Ok(256)));
 }
 

@@ -723,16 +723,18 @@ static void long_lists(void) {
         count_is(57, 0, twice ? 256 : 1, twice ? 256 : 1);
         count_is(0, twice ? 16 : 0, !twice, twice ? MANY : 1);
     }
-    /* of a free token: a row that is too long, alone and as the second one */
+    /* of a free token: none, 131072 of it, which is too long, and 65535 */
     begin(20, 2, 0);
     PROD(0, R(1)), prod(1, NULL, 0), PROD(1, R(2));
     for (uint16_t r = 2; r < 19; r++) PROD(r, R(r + 1), R(r + 1));
     PROD(19, 0);
-    count_is(1, 0, 2, 2), row_is(1, 0, NULL, 0), row_refused(1, 1, 100000, 15), row_refused(2, 0, 100000, 15);
-    row_refused(1, 2, 0, 16);
+    for (uint16_t r = 4; r < 20; r++) add((uint16_t)R(r));
+    end(1);
+    count_is(1, 0, 3, 3), row_is(1, 0, NULL, 0), row_refused(1, 1, 100000, 15), row_refused(2, 0, 100000, 15);
+    row_refused(1, 2, 65534, 15), row_refused(1, 3, 0, 16);
     call c = make(MIN_SENTENCE_AT);
-    c.rule = 4, c.out_len = 32768;
-    expect("row of 32768", run(&c).field[0], 32768);
+    c.rule = 1, c.k = 2, c.out_len = 65535;
+    expect("row of 65535", run(&c).field[0], 65535);
 }
 
 /* Every call on the grammar at hand gives this refusal. */

@@ -2,11 +2,13 @@
 # repository's top. It is built where it is older than its sources or the library, and so is the library before it. Then
 # `command` is the program.
 command=$root/target/rust/release/boltmarrow
-if [ ! -x "$command" ] || [ -n "$(find "$root/bindings/rust" "$root/crates" "$root/crates.txt" \
-    "$root/target/staticlib/libboltmarrow.a" -type f -newer "$command" 2>&1 | head -n 1)" ]; then
+library=$root/target/staticlib/libboltmarrow.a
+if [ ! -x "$command" ] || [ -n "$(find "$root/bindings/rust" "$root/crates" "$root/crates.txt" "$library" -type f \
+    -newer "$command" 2>&1 | head -n 1)" ]; then
     [ "$(uname -m)" = x86_64 ] || die "the library is for x86-64, and this is $(uname -m)"
-    [ -e "$root/target/staticlib/libboltmarrow.a" ] ||
+    if [ ! -e "$library" ] || [ -n "$(find "$root/crates" "$root/crates.txt" -type f -newer "$library" | head -n 1)" ]; then
         say 'proving and building the library, once, which takes some minutes'
+    fi
     (
         cd "$root"
         . tools/library.sh

@@ -1,5 +1,6 @@
 """What document 01 says of the costs and sentences of a grammar, and what the loops of the Rust make of them: where
-they do not return, where they panic, and what they write; and what is left of the Rust's FOLLOW where only productions
+they do not return, where they panic, and what they write; what document 02 says of lists of sentences, and how much
+work they are for the Rust; and what is left of the Rust's FOLLOW where only productions
 of reached rules count. All is worked out from the grammar alone."""
 import collections
 import functools
@@ -17,7 +18,7 @@ def circle(links):
 
 
 class Reading:
-    """What document 01 says of costs and sentences of one grammar, and what the Rust's loops make of them."""
+    """What the documents say of costs, sentences and lists of one grammar, and what the Rust's loops make of them."""
 
     def __init__(self, g):
         self.g = g

@@ -1,9 +1,10 @@
 //! A grammar from a file: a block file, or the readable text of bin/blocks, which has names.
-use std::ffi::OsStr;
+use std::ffi::{OsStr, OsString};
+use std::fmt::Display;
 use std::fs::File;
 use std::io::{self, Read};
 
-use boltmarrow::Grammar;
+use boltmarrow::{Grammar, RIdx};
 
 use crate::failure::Failure;
 use crate::names::Names;
@@ -40,6 +41,21 @@ impl Input {
             Failure::Use(words) | Failure::File(words) => Failure::File(format!("{shown}: {words}")),
         })?;
         Ok(Input { grammar, names, file: shown })
+    }
+
+    /// What is refused of this file.
+    pub fn refused(&self, words: impl Display) -> Failure {
+        Failure::Refused(format!("{}: {words}", self.file))
+    }
+
+    /// The rule of that name or number; the start if none is given.
+    pub fn rule(&self, word: Option<&OsString>) -> Result<RIdx, Failure> {
+        let found =
+            word.map_or(Ok(self.grammar.start_rule_idx()), |word| self.names.find_rule(&word.to_string_lossy()));
+        found.map_err(|failure| match failure {
+            Failure::Refused(words) => self.refused(words),
+            failure => failure,
+        })
     }
 }
 

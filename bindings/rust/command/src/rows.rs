@@ -41,21 +41,18 @@ fn reason(refusal: Refusal) -> String {
 }
 
 fn run(words: &[OsString], output: &mut Output) -> Result<(), Failure> {
-    let Input { grammar, names, file } = Input::read(&words[0])?;
-    let ridx = match words.get(1) {
-        Some(word) => names.find_rule(&word.to_string_lossy())?,
-        None => grammar.start_rule_idx(),
-    };
-    let refused = |what: String, refusal| Failure::Refused(format!("{file}, {what}: {}", reason(refusal)));
-    let rule = || format!("rule {}", names.rule(ridx));
-    let sentences = grammar.sentence_generator();
-    let rows = sentences.min_sentences(ridx).map_err(|refusal| refused(rule(), refusal))?;
+    let input = Input::read(&words[0])?;
+    let (names, ridx) = (&input.names, input.rule(words.get(1))?);
+    let rule = names.rule(ridx);
+    let sentences = input.grammar.sentence_generator();
+    let rows = sentences.min_sentences(ridx);
+    let rows = rows.map_err(|refusal| input.refused(format!("rule {rule}: {}", reason(refusal))))?;
     for (k, row) in rows.enumerate() {
         match row {
             Ok(row) => output.parts(row.into_iter().map(|tidx| names.token(tidx)))?,
             Err(refusal) => {
                 output.flush()?;
-                return Err(refused(format!("{}, row {k} from 0", rule()), refusal));
+                return Err(input.refused(format!("rule {rule}, row {k} from 0: {}", reason(refusal))));
             }
         }
     }

@@ -85,8 +85,9 @@ def outcome(call, *words):
 
 
 def plain_list(g, r):
-    """All cheapest sentences of a rule."""
-    return [plain.sentence_at(g, r, k) for k in range(plain.sentence_count(g, r))]
+    """All cheapest sentences of a rule, by their numbers."""
+    found = plain.numbered(g, r)
+    return [found.row(r, k) for k in range(found.counts[r])]
 
 
 def plain_answer(g, listed=()):

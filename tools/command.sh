@@ -7,13 +7,14 @@ if [ ! -x "$command" ] || [ -n "$(find "$root/bindings/rust" "$root/crates" "$ro
     -newer "$command" 2>&1 | head -n 1)" ]; then
     [ "$(uname -m)" = x86_64 ] || die "the library is for x86-64, and this is $(uname -m)"
     command -v cargo >/dev/null 2>&1 || die 'Rust is not installed: its command cargo is not on the path'
-    if [ ! -e "$library" ] || [ -n "$(find "$root/crates" "$root/crates.txt" -type f -newer "$library" | head -n 1)" ]; then
+    if [ ! -e "$library" ] ||
+        [ -n "$(find "$root/crates" "$root/crates.txt" -type f -newer "$library" | head -n 1)" ]; then
         say 'proving and building the library, once, which takes some minutes'
     fi
     (
-        cd "$root"
-        . tools/library.sh
-        BOLTMARROW_LIB=$root/target/staticlib CARGO_TARGET_DIR=$root/target/rust cargo build --release --offline --quiet \
-            --manifest-path bindings/rust/command/Cargo.toml && touch "$command"
+        cd "$root" && . tools/library.sh &&
+            BOLTMARROW_LIB=$root/target/staticlib CARGO_TARGET_DIR=$root/target/rust \
+                cargo build --release --offline --quiet --manifest-path bindings/rust/command/Cargo.toml &&
+            touch "$command"
     ) </dev/null >&2 || die 'the program is not built'
 fi

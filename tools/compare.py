@@ -10,12 +10,13 @@ is not given to the Rust, which builds none; ours is then held to tools/plain.py
 FIRST, EMPTY, mode 1 FOLLOW and all paths must be equal; so must the costs where the Rust returns, and a sentence where
 it returns and no production used has a rule followed by a token or by a rule whose sentence is not empty. At such a
 place the Rust's sentence must be the one that taking the rest again gives. The list of all cheapest sentences must be
-that of the Rust's min_sentences, row by row, where it is short and the Rust returns. Where the Rust does not return, or panics,
-the grammar must have what the named difference says, worked out from the grammar alone; if it runs out of time without
-such a reason, it is asked again with more time, which is counted. What we answer there must be what document 01 says.
-The reached rules must be rule 0 and those to which the Rust has a path from it; mode 2 FOLLOW must be what the
-documents say, and hold what the Rust's rule gives over the productions of reached rules. Each kind is counted, and each
-kind of difference shown with the smallest grammar that has it; the program exits with 1 if one is not explained.
+that of the Rust's min_sentences, row by row, where it is short and the Rust returns. Where the Rust does not return, or
+panics, the grammar must have what the named difference says, worked out from the grammar alone; if it runs out of time
+without such a reason, it is asked again with more time, which is counted. What we answer there must be what the
+documents say. The reached rules must be rule 0 and those to which the Rust has a path from it; mode 2 FOLLOW must be
+what the documents say, and hold what the Rust's rule gives over the productions of reached rules. Each kind is counted,
+and each kind of difference shown with the smallest grammar that has it; the program exits with 1 if one is not
+explained.
 """
 import collections
 import concurrent.futures

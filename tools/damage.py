@@ -6,10 +6,10 @@ A call's grammar is of a shape of tools/grammars.py, in one of four with further
 refusals made due, one or two, or a list cut, lengthened, emptied or with an entry replaced. Tables hold anything, spare
 bits and entries above 65536 included, and may be of a wrong length; a reached row may be the finished one too, or that
 with a mark changed or spare bits set; numbers may be out of range, room short; of the calls on all cheapest sentences
-many grammars have equal choices, circles or some 65535 rows, and k is around the count. A block file is of either version and
-has what a file can have wrong; one that is written must be bin/blocks' own. The answer and every element of every list
-must be equal. It prints how often each call gave each refusal, 0 for an answer; it exits with 1 if an answer differs,
-or if of the usual number of calls none gave some refusal that the call can give.
+many grammars have equal choices, circles or some 65535 rows, and k is around the count. A block file is of either
+version and has what a file can have wrong; one that is written must be bin/blocks' own. The answer and every element of
+every list must be equal. It prints how often each call gave each refusal, 0 for an answer; it exits with 1 if an answer
+differs, or if of the usual number of calls none gave some refusal that the call can give.
 """
 import array
 import collections

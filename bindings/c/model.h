@@ -1,7 +1,7 @@
 /* Document 01 once more in C, with the file writer, the versions, the several exports, the reached rules and the lists
- * of cheapest sentences of document 02, plain and slow, to compare the library with. It is written from those texts, with the readings of their
- * open points in docs/DECISIONS.md, and from no crate. A call names an exported function and holds what it is lent;
- * `model` makes the call on those lists. */
+ * of cheapest sentences of document 02, plain and slow, to compare the library with. It is written from those texts,
+ * with the readings of their open points in docs/DECISIONS.md, and from no crate. A call names an exported function and
+ * holds what it is lent; `model` makes the call on those lists. */
 #include <stddef.h>
 #include <stdint.h>
 #include <string.h>
@@ -359,7 +359,8 @@ static uint32_t count_rule(const grammar *g, size_t rule, const uint32_t *cost, 
 static void fill_counts(const grammar *g, const uint32_t *cost, uint32_t *counts) {
     uint8_t visiting[512] = {0};
     clear(counts, g->rules, 0);
-    for (size_t r = 0; r < g->rules; r++) counts[r] = cost[r] > MOST ? CIRCULAR : count_rule(g, r, cost, counts, visiting);
+    for (size_t r = 0; r < g->rules; r++)
+        counts[r] = cost[r] > MOST ? CIRCULAR : count_rule(g, r, cost, counts, visiting);
 }
 
 /* How many rows a production of a rule with a list has. */

@@ -235,7 +235,8 @@ fn lists_are_equal(name: &str, flat: &Grammar, grm: &YaccGrammar<u16>) {
 #[test]
 fn all_cheapest_rows_in_the_grammars_own_names() -> Result<(), Refusal> {
     let names = "token n\ntoken s\ntoken ,\ntoken digits\ntoken -\nrule Row\nrule House\nrule Value\nstart Row\n";
-    let prods = "prod Row rule:House token:, rule:Value\nprod House token:n\nprod House token:s\nprod Value token:digits\nprod Value token:-";
+    let prods = "prod Row rule:House token:, rule:Value\nprod House token:n\nprod House token:s\n\
+                 prod Value token:digits\nprod Value token:-";
     let grm = yacc(&[names, prods].concat());
     let flat = flatten(&grm, |_| 1)?;
     let mut rows = vec![];

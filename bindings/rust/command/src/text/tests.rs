@@ -27,7 +27,8 @@ fn each_example_is_its_block_file() {
 
 #[test]
 fn lines_of_every_kind() {
-    let text = "# a row\r\n\ntokens a=3 b# eof=0 # costs\n  rules start A  B\nversion 2\nstart: A\nA: a*2 32770 b#\n2: # none\n";
+    let text = "# a row\r\n\ntokens a=3 b# eof=0 # costs\n  rules start A  B\nversion 2\n\
+                start: A\nA: a*2 32770 b#\n2: # none\n";
     let said = Text::read(text).unwrap();
     assert_eq!(
         (&said.names.tokens[..], &said.names.rules[..]),

@@ -14,22 +14,18 @@ use lib.Seq.{getD-set-same, getD-set-other}
 use borrow.Author.Tests.{lt-ltb, le-ltb}
 use Rattle.theory.specs.Below.{some}
 use Rattle.theory.proofs.Below.{all-none}
-use Rattle.rows.specs.Marks.{bit, mark, Small, run, lit, someLit, inRuns, past, JoinedWord, JoinedRun, none, onto, Raised, Rows}
+use Rattle.rows.specs.Marks.{bit, mark, Small, Copied, lit, someLit, inRuns, past, JoinedWord, JoinedRun, none, onto, Raised, Rows}
 use Rattle.rows.proofs.Bits.{or-some}
 use Rattle.rows.proofs.Raise.{raised-as, raised-then, raised-below}
 use Rattle.rows.proofs.Join.{Joining, join-start, own-bits, turn-whole}
 
--- a word of a run
-pub run-word : (ws : List ℕ) (at k : ℕ) → k < 8 → getD (run ws at) k 0 ≡ getD ws (at + k) 0
-run-word ws at zero l = ap (λ z. getD ws z 0) (let e : at ≡ at + 0 = omega arith in e)
-run-word ws at (suc zero) l = refl
-run-word ws at (suc (suc zero)) l = refl
-run-word ws at (suc (suc (suc zero))) l = refl
-run-word ws at (suc (suc (suc (suc zero)))) l = refl
-run-word ws at (suc (suc (suc (suc (suc zero))))) l = refl
-run-word ws at (suc (suc (suc (suc (suc (suc zero)))))) l = refl
-run-word ws at (suc (suc (suc (suc (suc (suc (suc zero))))))) l = refl
-run-word ws at (suc (suc (suc (suc (suc (suc (suc (suc k)))))))) l = absurd (omega arith)
+-- one word more is read
+pub copied-more : (ws words : List ℕ) (at n : ℕ) → n < length words → Copied n ws at words → Copied (n + 1) ws at (set words n (getD ws (at + n) 0))
+copied-more ws words at n l h k lt = go (ℕ-discrete k n)
+  where
+    go : Dec (k ≡ n) → getD (set words n (getD ws (at + n) 0)) k 0 ≡ getD ws (at + k) 0
+    go (yes e) = rw (e, getD-set-same words n (getD ws (at + n) 0) 0)
+    go (no e) = rw (getD-set-other words n k (getD ws (at + n) 0) 0) (h k (omega arith))
 
 -- some word has a bit once y is joined to word k
 or-last : (s l o q : Bool) → ((s || (l && q)) || o) ≡ ((s || o) || (l && q))
@@ -84,7 +80,7 @@ module _ (T W : ℕ) (ws : List ℕ) (a b : ℕ) where
   pub runs-start : Small ws → Joining (inRuns T) W ws ws (mark W ws a) b 0 (someLit 8 (replicate 8 0))
   runs-start s = rw (all-none (lit (replicate 8 0)) 8 (λ k l. rw (getD-replicate {A = ℕ} 8 k 0 0 l))) (join-start (inRuns T) W ws (mark W ws a) b 0 s (λ t l. absurd (omega arith)))
 
-  pub runs-more : Rows T W ws a ws b → (now new words to all : List ℕ) (i : ℕ) → length new ≡ 8 → Joining (inRuns T) W ws now (mark W ws a) b (i * 8 * 32) (someLit 8 new) → i < T / 256 → words ≡ run now (a * W + i * 8) → JoinedRun words (b * W + i * 8) now new 8 to all → (length all ≡ 8) × Joining (inRuns T) W ws to (mark W ws a) b ((i + 1) * 8 * 32) (someLit 8 all)
+  pub runs-more : Rows T W ws a ws b → (now new words to all : List ℕ) (i : ℕ) → length new ≡ 8 → Joining (inRuns T) W ws now (mark W ws a) b (i * 8 * 32) (someLit 8 new) → i < T / 256 → Copied 8 now (a * W + i * 8) words → JoinedRun words (b * W + i * 8) now new 8 to all → (length all ≡ 8) × Joining (inRuns T) W ws to (mark W ws a) b ((i + 1) * 8 * 32) (someLit 8 all)
   runs-more rows now new words to all i long j lt q joined =
       (run-long (inRuns T) W ws ws (mark W ws a) a b cut words now new (i * 8) long small reads j joined, subst (λ z. Joining (inRuns T) W ws to (mark W ws a) b (z * 32) (someLit 8 all)) (let e : i * 8 + 8 ≡ (i + 1) * 8 = omega arith in e) (run-turns (inRuns T) W ws ws (mark W ws a) a b cut words now new (i * 8) long small reads j joined (omega arith) (omega arith)))
     where
@@ -92,11 +88,11 @@ module _ (T W : ℕ) (ws : List ℕ) (a b : ℕ) where
       cut = record { fits = omega (arith, rows .fits); from = rows .from; to = rows .to }
 
       small : (k : ℕ) → k < 8 → getD words k 0 < 2 ^ 32
-      small k l = rw (q, run-word now (a * W + i * 8) k l) (j .raised .small (a * W + i * 8 + k))
+      small k l = rw (q k l) (j .raised .small (a * W + i * 8 + k))
 
       reads : (k t : ℕ) → k < 8 → t < inRuns T → t / 32 ≡ i * 8 + k → bit (getD words k 0) (t % 32) ≡ mark W ws a t
       reads k t l lt e =
-          rw (q, run-word now (a * W + i * 8) k l)
+          rw (q k l)
           (ap (λ z. bit (getD now z 0) (t % 32)) (let u : a * W + i * 8 + k ≡ a * W + (i * 8 + k) = omega arith in u) ∙ own-bits (inRuns T) W ws now (mark W ws a) a b (i * 8 * 32) (i * 8 + k) (someLit 8 new) (cut .fits) j (omega arith) t lt e)
 
 -- the turns of `join_rest`

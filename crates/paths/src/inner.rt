@@ -136,33 +136,27 @@ pub fn search(
     ensures { λ x. ⌜ Finds (now (owners .entry)) (now (starts .entry)) (now (symbols .entry)) from to x (now (seen .exit)) ⌝ }
 {
     if (rules <= 64) & (owners.len() <= 64) {
-        let mut head = [4096; 64];
-        let mut next = [0; 64];
-        let mut list = [0; 64];
         return find(
             owners,
             starts,
             symbols,
             from,
             to,
-            &mut head,
-            &mut next,
-            &mut list,
+            &mut [4096; 64],
+            &mut [0; 64],
+            &mut [0; 64],
             seen,
         );
     }
-    let mut head = [4096; 512];
-    let mut next = [0; 4096];
-    let mut list = [0; 512];
     find(
         owners,
         starts,
         symbols,
         from,
         to,
-        &mut head,
-        &mut next,
-        &mut list,
+        &mut [4096; 512],
+        &mut [0; 4096],
+        &mut [0; 512],
         seen,
     )
 }

@@ -1,4 +1,4 @@
-// The search below `has_path`: links of each rule's productions, then the rules turn by turn, each once.
+// The search below `has_path`: links of each rule's productions, then turn by turn the rules that it comes to.
 use grammar::inner::links;
 use grammar::inner::start_at;
 use grammar::inner::wide;
@@ -71,7 +71,8 @@ fn rule(
     m
 }
 
-// First `from` has its turn, then each rule of the list, until `to` is seen or none is left.
+// First `from` has its turn, not seen since no step has led to it, then each rule of the list, until `to` is
+// seen or none is left.
 fn turns(
     owners: &[u16],
     starts: &[u16],

@@ -1,9 +1,9 @@
 -- The working tables: what each part of filling them asks, and what they come to.
 use mathlib.Core.List.{List}
-use mathlib.Core.Path.{_≡_, sym, ap, subst}
+use mathlib.Core.Path.{_≡_, sym, ap, _∙_, subst}
 use Prim.Native.Nat.{ℕ, _≤_}
 use native.Mathlib.Omega.{arith}
-use lib.ListN.{replicate}
+use lib.ListN.{length, replicate, length-replicate}
 use Rattle.grammar.specs.Flat.{Flat}
 use Rattle.grammar.specs.Links.{Linked, Linkable}
 use Rattle.grammar.proofs.Linking.{linkable}
@@ -20,9 +20,9 @@ module _ (g : Flat) (productive cost next choice lengths counts : List ℕ) (ok 
   pub work-links : Linkable (g .owners) (replicate 512 4096) next
   work-links = subst (Linkable (g .owners) (replicate 512 4096)) (sym (ok .next-none)) (linkable (g .owners) (ok .well .sizes .prods-high) (λ p l. omega (arith, ok .well .owner p l, ok .well .sizes .rules-high)))
 
-  module _ (productive′ cost′ choice′ lengths′ : List ℕ) (w : Sentence.Worked g productive′ cost′ choice′ lengths′) (head′ next′ : List ℕ) (l : Linked (g .owners) head′ next′ 0) where
+  module _ (productive′ cost′ choice′ lengths′ : List ℕ) (w : Sentence.Worked g productive′ cost′ choice′ lengths′) (head′ next′ : List ℕ) (l : Linked 512 (length next) (g .owners) head′ next′ 0) where
     nexts : Nexts g next′
-    nexts = record { long = l .next-long; nexts = λ q lq. l .nexts q (omega arith) lq }
+    nexts = record { long = l .next-long ∙ ap length (ok .next-none) ∙ length-replicate {A = ℕ} 4096 4096; nexts = λ q lq. l .nexts q (omega arith) lq }
 
     ground : Ground g next′ cost′ choice′
     ground = record { well = ok .well; links = nexts; prices = w .prices; picks = w .picks }

@@ -23,12 +23,12 @@ use Rattle.grammar.proofs.Denoted.{proper}
 use Rattle.grammar.proofs.Forms.{prod-in, Placed, placed}
 use Rattle.costs.specs.Lent.{costsOf}
 use Rattle.sentences.specs.Choosing.{FromReady, CheapestFrom}
-use Rattle.listings.specs.declared.inner.turning.Turned.{Turned}
-use Rattle.listings.specs.declared.inner.turning.Turned.the-variants.{At, Past}
+use Rattle.odometer.specs.declared.inner.Turned.{Turned}
+use Rattle.odometer.specs.declared.inner.Turned.the-variants.{At, Past}
 use Rattle.listings.specs.Calls.{countsOf}
 use Rattle.listings.specs.Counting.{deepBy}
 use Rattle.listings.specs.Numbers.{PlacesReady, Places, Numbered, NumberReady, Finds, listsBy}
-use Rattle.listings.specs.Turning.{Turnable, Turns}
+use Rattle.odometer.specs.Turning.{Turnable, Turns}
 use Rattle.listings.proofs.Counting.{choice-low, choice-is, next-from, next-above, next-between, next-less}
 
 -- places that are all at 0

@@ -17,7 +17,6 @@ ghost use Rattle.listings.specs.Working.{Workable, Worked, CountReady, N
 
 pub mod counts;
 pub mod numbers;
-pub mod turning;
 
 use crate::inner::counts::count_fill;
 use crate::inner::numbers::length_rule;

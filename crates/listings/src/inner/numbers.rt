@@ -1,6 +1,6 @@
 // Number k of a rule: found by turning the places of its cheapest productions, measured, and written.
-use crate::inner::turning::Turned;
-use crate::inner::turning::show;
+use odometer::inner::Turned;
+use odometer::inner::show;
 use costs::inner::entry_at;
 use grammar::inner::start_at;
 use grammar::inner::wide;

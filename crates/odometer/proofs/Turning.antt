@@ -8,9 +8,9 @@ use lib.ListN.{length, take, drop, set, length-set, getD}
 use lib.Seq.{take-set-lt, drop-set-lt, getD-take, getD-drop, drop-drop, take-suc, take-suc-set, take-at, getD-at, length-take-le}
 use Rattle.theory.specs.Odometer.{product, Fits, zeros, turns, Carrying}
 use Rattle.theory.proofs.Odometer.{zeros-append, product-append, turns-append, fits-parts, parts-fit, fits-length, turns-zeros, carry-start, carry-below, carry-fits, carry-turns, carry-on, carry-spills, carry-zeros}
-use Rattle.listings.specs.Turning.{Turnable, Turns}
-use Rattle.listings.specs.declared.inner.turning.Turned.{Turned}
-use Rattle.listings.specs.declared.inner.turning.Turned.the-variants.{At, Past}
+use Rattle.odometer.specs.Turning.{Turnable, Turns}
+use Rattle.odometer.specs.declared.inner.Turned.{Turned}
+use Rattle.odometer.specs.declared.inner.Turned.the-variants.{At, Past}
 
 -- so many turns are left
 pub record Turning (bases : List ℕ) (m k : ℕ) (start todo : List ℕ) (left : ℕ) : Type 0 where

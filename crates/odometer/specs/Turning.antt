@@ -4,8 +4,8 @@ use mathlib.Core.Path.{_≡_}
 use Prim.Native.Nat.{ℕ, _+_, _≤_, _<_}
 use lib.ListN.{length, take, drop, getD}
 use Rattle.theory.specs.Odometer.{product, Fits, zeros, turns}
-use Rattle.listings.specs.declared.inner.turning.Turned.{Turned}
-use Rattle.listings.specs.declared.inner.turning.Turned.the-variants.{At, Past}
+use Rattle.odometer.specs.declared.inner.Turned.{Turned}
+use Rattle.odometer.specs.declared.inner.Turned.the-variants.{At, Past}
 
 -- what turning asks: at most 16 places, each with 1 to 65535 choices, all at 0
 pub record Turnable (bases : List ℕ) (m : ℕ) (todo : List ℕ) : Type 0 where

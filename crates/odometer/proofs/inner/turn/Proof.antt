@@ -1,8 +1,8 @@
 use borrow.Author.Needs.{needs}
 use native.Mathlib.Omega.{arith}
-use Rattle.listings.proofs.Turning.{Turning, Turned′, turning-start, turning-end, turned-start, turned-place, turned-below, turned-up, turned-on, turned-spills}
-use Rattle.listings.proofs.inner.turning.turn.Statement.{statement}
-use Rattle.listings.proofs.inner.turning.turn.Tie as tie
+use Rattle.odometer.proofs.Turning.{Turning, Turned′, turning-start, turning-end, turned-start, turned-place, turned-below, turned-up, turned-on, turned-spills}
+use Rattle.odometer.proofs.inner.turn.Statement.{statement}
+use Rattle.odometer.proofs.inner.turn.Tie as tie
 
 abbrev Inv-loop : tie.InvT-loop
 Inv-loop bases m k todo₀ left j₀ todo j = Turned′ bases m k todo₀ left todo j

@@ -1,9 +1,9 @@
 use mathlib.Core.Path.{refl}
-use Rattle.listings.proofs.Turning.{show-some, show-turnable, show-at, show-fits, show-past}
+use Rattle.odometer.proofs.Turning.{show-some, show-turnable, show-at, show-fits, show-past}
 use native.Mathlib.Omega.{arith}
 use borrow.Author.Needs.{needs}
-use Rattle.listings.proofs.inner.turning.show.Statement.{statement}
-use Rattle.listings.proofs.inner.turning.show.Tie as tie
+use Rattle.odometer.proofs.inner.show.Statement.{statement}
+use Rattle.odometer.proofs.inner.show.Tie as tie
 
 turn-requires : tie.Need-turn-requires
 turn-requires c κs = search needs

@@ -1,5 +1,5 @@
 // The odometer over the choices of a production: the last place turns fastest.
-ghost use Rattle.listings.specs.Turning.{Turnable, Turns};
+ghost use Rattle.odometer.specs.Turning.{Turnable, Turns};
 
 // How turning ended: the choice is shown, or the first place spilled and so many turns are left.
 pub enum Turned {

@@ -3,12 +3,11 @@ use mathlib.Core.Bool.{Bool, true, false, not, _||_}
 use mathlib.Core.List.{List}
 use mathlib.Core.Path.{_≡_, refl, sym, _∙_, ap}
 use Prim.Native.Nat.{ℕ, _≤_, _<_}
-use native.Mathlib.Omega.{arith}
 use lib.Dec.{eqb, leb}
 use lib.ListN.{length, replicate}
 use borrow.Author.Tests.{eqb-true, le-leb, lt-leb, leb-false, not-false}
 use Rattle.theory.proofs.Bools.{or-none}
-use Rattle.grammar.specs.Flat.{Flat, flat}
+use Rattle.grammar.specs.Flat.{Flat}
 use Rattle.grammar.specs.Outcome.{Outcome, answers, refused, unless}
 use Rattle.grammar.specs.Production.{checkedIs, checkOf, numberOf}
 use Rattle.grammar.specs.Refusals.{unlessDue}
@@ -22,7 +21,7 @@ use Rattle.tables.specs.Call.{Call}
 use Rattle.tables.specs.Sizes.{words}
 use Rattle.tables.proofs.Calls.{call-refused, call-does}
 use Rattle.costs.specs.Lent.{costsOf}
-use Rattle.listings.specs.Calls.{Work, work, dueBy, allDue, Counts, Numbers, CountDone, lends, NumberDone}
+use Rattle.listings.specs.Calls.{work, dueBy, allDue, Counts, Numbers, CountDone, lends, NumberDone}
 use Rattle.listings.specs.Working.{Workable, Worked, CountReady, NumberReady}
 
 -- `due`: the grammar is refused, or one of the tests that follow

@@ -1,34 +1,33 @@
 -- Counting by recursion over the depth, symbol by symbol and production by production: what is counted so far, and what is left.
-use mathlib.Core.Bool.{Bool, true, false, not, _&&_, _||_, cond, true≢false, false≢true}
-use mathlib.Core.List.{List, [], _∷_}
+use mathlib.Core.Bool.{Bool, true, false, _&&_, _||_, cond}
+use mathlib.Core.List.{List, _∷_}
 use mathlib.Core.Logic.{_⊎_, inl, inr}
-use mathlib.Core.Path.{_≡_, refl, sym, ap, ap₂, _∙_, subst, subst₂, fun-ext}
+use mathlib.Core.Path.{_≡_, refl, sym, ap, _∙_, subst, subst₂, fun-ext}
 use Prim.Native.Nat.{ℕ, suc, _+_, _*_, _-_, _≤_, _<_, min}
 use native.Mathlib.Decide.{decLe, decLt, ℕ-discrete}
 use native.Mathlib.Nat.{one-mul, mul-one}
 use native.Mathlib.Omega.{arith}
-use lib.Dec.{leb, ltb}
+use lib.Dec.{leb}
 use lib.ListN.{length, getD, set, replicate, length-set, length-replicate, getD-replicate, List·getD-eq-default}
 use lib.Seq.{getD-set-same, getD-set-other}
-use borrow.Author.Tests.{eqb-true, le-leb, leb-true, leb-false, ltb-true, ltb-false, lt-ltb}
-use Rattle.theory.specs.Grammar.{tok, rul}
+use borrow.Author.Tests.{le-leb, leb-true, leb-false, ltb-true, lt-ltb}
+use Rattle.theory.specs.Grammar.{rul}
 use Rattle.theory.specs.Levels.{suits}
-use Rattle.theory.specs.Visits.{Costs, allMarked}
+use Rattle.theory.specs.Visits.{allMarked}
 use Rattle.theory.specs.Sentences.{Choice}
 use Rattle.theory.specs.Cheapest.{Cheapest}
-use Rattle.theory.specs.Listing.{listed, allBelow, deep}
-use Rattle.theory.specs.Counts.{Count, CountExact, formWays, ruleWays, countCleared}
+use Rattle.theory.specs.Listing.{allBelow}
+use Rattle.theory.specs.Counts.{Count, formWays, ruleWays, countCleared}
 use Rattle.theory.specs.Counting.{Counting, Keeps}
-use Rattle.theory.proofs.Bools.{and-split, and-join, or-split, or-none}
+use Rattle.theory.proofs.Bools.{and-join, or-split, or-none}
 use Rattle.theory.proofs.Choices.{priced-choice}
 use Rattle.theory.proofs.Listing.{suits-cheapest, cheapest-suits}
-use Rattle.theory.proofs.Depth.{priced-below, deep-priced}
+use Rattle.theory.proofs.Depth.{priced-below}
 use Rattle.theory.proofs.Numbers.{choice-cheapest, choice-lowest}
-use Rattle.theory.proofs.Counts.{cut-on, cut-sum, count-one}
+use Rattle.theory.proofs.Counts.{cut-on}
 use Rattle.theory.proofs.Counting.{shallow-dear, shallow-at, ways-skip, counting-start, counting-rule, counting-known, counting-write, counting-fail, counting-exact}
 use Rattle.grammar.specs.Flat.{Flat, at, form, denoted, price}
 use Rattle.grammar.specs.Links.{Leads}
-use Rattle.grammar.specs.Well.{WellFormed}
 use Rattle.grammar.proofs.Denoted.{proper}
 use Rattle.grammar.proofs.Forms.{form-done, form-token, form-rule, prod-in, Placed, placed}
 use Rattle.costs.specs.Lent.{costsOf}
@@ -37,7 +36,7 @@ use Rattle.sentences.specs.Choosing.{FromReady, CheapestFrom}
 use Rattle.sentences.specs.Lent.{choicesOf}
 use Rattle.sentences.proofs.Choosing.{unfit}
 use Rattle.listings.specs.Calls.{countsOf, CountsDefined}
-use Rattle.listings.specs.Counting.{deepBy, manyBy, Nexts, Ground, levelsOf, CountBegun, CountOn, RuleCountable, RuleCounts, ProductionCountable, ProductionCounts, CountFillable}
+use Rattle.listings.specs.Counting.{deepBy, manyBy, Ground, levelsOf, CountBegun, CountOn, RuleCountable, RuleCounts, ProductionCountable, ProductionCounts, CountFillable}
 
 -- a product of counts, cut
 pub times-short : (n x : ℕ) → n * x ≤ 65535 → n * x ≡ min (n * x) 65536

@@ -7,7 +7,7 @@ use Prim.Native.Nat.{ℕ, _≤_, _<_}
 use native.Mathlib.Decide.{decLe}
 use native.Mathlib.Omega.{arith}
 use lib.ListN.{length, drop}
-use Rattle.theory.specs.Definitions.{Productive, Sentence, costOf}
+use Rattle.theory.specs.Definitions.{Productive}
 use Rattle.theory.specs.Visits.{Costs}
 use Rattle.theory.specs.Cheapest.{Circular}
 use Rattle.theory.specs.Listing.{listed, sentenceAt}

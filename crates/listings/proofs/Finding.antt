@@ -5,15 +5,14 @@ use mathlib.Core.Path.{_≡_, refl, sym, ap, ap₂, _∙_, subst}
 use Prim.Native.Nat.{ℕ, zero, suc, _+_, _-_, _≤_, _<_, min}
 use native.Mathlib.Decide.{decLt}
 use native.Mathlib.Omega.{arith}
-use lib.ListN.{length, getD, take, drop, replicate, length-replicate, take-append-drop}
+use lib.ListN.{length, getD, take, replicate, length-replicate, take-append-drop}
 use lib.Seq.{getD-take}
-use Rattle.theory.specs.Levels.{suits}
 use Rattle.theory.specs.Cheapest.{Cheapest}
 use Rattle.theory.specs.Cheapest as Cheap
 use Rattle.theory.specs.Listing.{below}
 use Rattle.theory.specs.Counts.{formWays}
 use Rattle.theory.specs.Odometer.{product, Fits, zeros, turns, places}
-use Rattle.theory.proofs.Depth.{deep-more, deep-priced, deep-leads, deep-enough, listing-same}
+use Rattle.theory.proofs.Depth.{deep-priced, deep-leads, deep-enough, listing-same}
 use Rattle.theory.proofs.Listing.{suits-cheapest}
 use Rattle.theory.proofs.Counts.{listing-some}
 use Rattle.theory.proofs.Odometer.{places-few, places-fit, places-low}
@@ -27,7 +26,7 @@ use Rattle.odometer.specs.declared.inner.Turned.{Turned}
 use Rattle.odometer.specs.declared.inner.Turned.the-variants.{At, Past}
 use Rattle.listings.specs.Calls.{countsOf}
 use Rattle.listings.specs.Counting.{deepBy}
-use Rattle.listings.specs.Numbers.{PlacesReady, Places, Numbered, NumberReady, Finds, listsBy}
+use Rattle.listings.specs.Numbers.{PlacesReady, Places, Numbered, Finds, listsBy}
 use Rattle.odometer.specs.Turning.{Turnable, Turns}
 use Rattle.listings.proofs.Counting.{choice-low, choice-is, next-from, next-above, next-between, next-less}
 

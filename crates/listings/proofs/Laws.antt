@@ -2,7 +2,7 @@
 -- least cost and no others, and number 0 is the answer of the sentence call.
 use mathlib.Core.List.{List, [], _∷_}
 use mathlib.Core.Logic.{_⊎_, inl, inr, _↔_}
-use mathlib.Core.Path.{_≡_, refl, sym, _∙_, ap, subst}
+use mathlib.Core.Path.{_≡_, sym, _∙_, ap, subst}
 use Prim.Native.Nat.{ℕ, _≤_, _<_}
 use native.Mathlib.Decide.{decLe}
 use native.Mathlib.Omega.{arith}
@@ -36,8 +36,8 @@ module _ (g : Flat) (w : WellFormed g) (v : Work) (x : Final g v) (r : ℕ) (l :
   cheapest-listed s = (
     λ y. lists-cheapest (denoted g) (price g) (costsOf (v .cost)) (proper g w) (x .cost .exact) r (l .priced) (l .straight) s (y .0) (y .1),
     λ y.
-    let z = listed-cheapest (denoted g) (price g) (costsOf (v .cost)) (proper g w) (x .cost .exact) r (l .priced) (l .straight) (y .0) (y .1) in
-    (subst (Sentence (denoted g) r) (y .2) (z .0), ap (costOf (price g)) (sym (y .2)) ∙ z .1),
+        let z = listed-cheapest (denoted g) (price g) (costsOf (v .cost)) (proper g w) (x .cost .exact) r (l .priced) (l .straight) (y .0) (y .1) in
+        (subst (Sentence (denoted g) r) (y .2) (z .0), ap (costOf (price g)) (sym (y .2)) ∙ z .1),
   )
 
   -- there is one at least

@@ -1,6 +1,6 @@
 -- The token count of number k: of a production with its choices, symbol by symbol, and of a rule by the production that has it.
 use mathlib.Core.Bool.{true, false≢true}
-use mathlib.Core.List.{List, []}
+use mathlib.Core.List.{List}
 use mathlib.Core.Path.{_≡_, refl, sym, ap, _∙_, subst}
 use Prim.Native.Nat.{ℕ, zero, suc, _+_, _-_, _≤_, _<_, min}
 use native.Mathlib.Omega.{arith}
@@ -11,7 +11,7 @@ use Rattle.theory.specs.Odometer.{Fits, places, picked}
 use Rattle.theory.proofs.Listing.{deep-at}
 use Rattle.theory.proofs.Numbers.{found-item}
 use Rattle.theory.proofs.Odometer.{picked-front}
-use Rattle.grammar.specs.Flat.{Flat, at, form, denoted, price}
+use Rattle.grammar.specs.Flat.{Flat, at, denoted, price}
 use Rattle.grammar.proofs.Forms.{form-done, prod-in, Placed, placed}
 use Rattle.costs.specs.Lent.{costsOf}
 use Rattle.listings.specs.Calls.{countsOf}

@@ -2,14 +2,13 @@
 use mathlib.Core.Bool.{cond}
 use mathlib.Core.List.{List, [], _∷_, _++_, append-nil, append-assoc}
 use mathlib.Core.Path.{_≡_, refl, sym, ap, _∙_}
-use Prim.Native.Nat.{ℕ, suc, _+_, _-_, _≤_, _<_}
+use Prim.Native.Nat.{ℕ, _+_, _-_, _≤_, _<_}
 use native.Mathlib.Numerals.{add-one}
 use native.Mathlib.Omega.{arith}
-use lib.Dec.{eqb}
 use lib.ListN.{length, take, set, length-set, length-append}
 use lib.Seq.{length-take-le, take-suc-set}
 use borrow.Author.Tests.{eq-eqb, ne-eqb}
-use Rattle.theory.specs.Grammar.{tok, rul}
+use Rattle.theory.specs.Grammar.{rul}
 use Rattle.theory.specs.Odometer.{places}
 use Rattle.grammar.specs.Flat.{at, form}
 use Rattle.grammar.proofs.Forms.{form-done, form-token, form-rule}

@@ -15,13 +15,13 @@ use Rattle.theory.specs.Grammar.{Grammar}
 use Rattle.theory.specs.Search.{Chain, one, link}
 use Rattle.theory.specs.Visits.{Costs}
 use Rattle.theory.specs.Cheapest.{Leads, Circular}
-use Rattle.theory.specs.Listing.{listed, sentenceAt}
+use Rattle.theory.specs.Listing.{sentenceAt}
 use Rattle.theory.specs.Counts.{Count, counted, many, none}
 use Rattle.theory.proofs.Bools.{and-split, and-join}
 use Rattle.theory.proofs.Depth.{deep-not-circular, deep-or-circular}
 use Rattle.theory.proofs.Counts.{known-count, count-one, count-known}
 use Rattle.grammar.specs.Flat.{Flat, at, denoted, price}
-use Rattle.grammar.specs.Outcome.{Outcome, answers, refused}
+use Rattle.grammar.specs.Outcome.{answers, refused}
 use Rattle.grammar.proofs.Denoted.{proper}
 use Rattle.grammar.proofs.Outcomes.{not-both, refused-one, answers-one}
 use Rattle.rows.specs.Marks.{mark}

@@ -1,7 +1,7 @@
 -- Demand 2 for all cheapest sentences, on every grammar that the crate can build: where the source's `min_sentences` returns, the count is
 -- that of its list, and number k is what stands at place k of it.
 use mathlib.Core.List.{List, [], map}
-use mathlib.Core.Path.{_≡_, refl, sym, _∙_, ap, subst}
+use mathlib.Core.Path.{_≡_, sym, _∙_, ap, subst}
 use Prim.Native.Nat.{ℕ, _≤_, _<_}
 use native.Mathlib.Omega.{arith}
 use lib.ListN.{length, length-map, getD}

@@ -9,7 +9,7 @@ use Rattle.theory.specs.Levels.{expanded}
 use Rattle.theory.specs.Odometer.{picked}
 use Rattle.theory.proofs.Expanding.{expanded-empty}
 use Rattle.theory.proofs.Numbers.{deep-within, listing-first}
-use Rattle.grammar.specs.Flat.{Flat, at, form, denoted, price}
+use Rattle.grammar.specs.Flat.{Flat, at, denoted, price}
 use Rattle.grammar.proofs.Denoted.{proper}
 use Rattle.grammar.proofs.Forms.{form-done}
 use Rattle.tables.specs.Append.{Appended}

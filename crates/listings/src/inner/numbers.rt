@@ -1,9 +1,9 @@
 // Number k of a rule: found by turning the places of its cheapest productions, measured, and written.
-use odometer::inner::Turned;
-use odometer::inner::show;
 use costs::inner::entry_at;
 use grammar::inner::start_at;
 use grammar::inner::wide;
+use odometer::inner::Turned;
+use odometer::inner::show;
 use sentences::inner::choices::cheapest_from;
 use sentences::inner::expansion::expand_rule;
 use sentences::inner::lengths::add;

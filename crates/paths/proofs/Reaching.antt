@@ -1,20 +1,21 @@
--- The reached rules: what a search for a rule that there is not has seen, as marks of a row.
-use mathlib.Core.Bool.{Bool, true, false, not, _&&_, _||_, and-true, and-false}
+-- The reached rules: rule 0 and what a search from it has seen, in the words of a lent row.
+use mathlib.Core.Bool.{Bool, true, false, _||_}
 use mathlib.Core.List.{List}
 use mathlib.Core.Logic.{inl, inr}
 use mathlib.Core.Path.{_≡_, refl, sym, _∙_, ap, subst}
-use Prim.Native.Nat.{ℕ, _+_, _≤_, _<_}
+use Prim.Native.Nat.{ℕ, _+_, _*_, _/_, _%_, _≤_, _<_}
+use native.Mathlib.Decide.{decLt}
 use native.Mathlib.Omega.{arith}
-use lib.Dec.{eqb, ltb}
-use lib.ListN.{length, replicate}
-use borrow.Author.Tests.{lt-ltb, le-ltb}
-use Rattle.theory.specs.Search.{Chain, one, link, Reach}
-use Rattle.theory.specs.Tables.{ReachedExact}
-use Rattle.theory.proofs.Below.{below-more}
+use lib.Dec.{eqb}
+use lib.ListN.{length, getD, set, replicate, length-set, List·getD-eq-default}
+use lib.Seq.{getD-set-same, getD-set-other}
+use borrow.Author.Tests.{eqb-true}
+use Rattle.theory.specs.Search.{Reach}
+use Rattle.theory.proofs.Bools.{or-split, or-left, or-right, eqb-same}
 use Rattle.theory.proofs.Paths.{Uses}
 use Rattle.theory.proofs.Reached.{reached-reach}
 use Rattle.theory.proofs.Search.{chain-map}
-use Rattle.grammar.specs.Flat.{Flat, flat, denoted}
+use Rattle.grammar.specs.Flat.{Flat, at, flat, denoted}
 use Rattle.grammar.specs.Outcome.{answers, refused}
 use Rattle.grammar.specs.Production.{checkedIs, checkOf}
 use Rattle.grammar.specs.Well.{WellFormed}
@@ -22,69 +23,63 @@ use Rattle.grammar.specs.declared.Checked.{Checked}
 use Rattle.grammar.specs.declared.Checked.the-variants.{Well}
 use Rattle.grammar.proofs.Lowest.{after-well}
 use Rattle.grammar.proofs.Well.{well}
-use Rattle.rows.specs.Marks.{place, mark, marked, Raised}
-use Rattle.rows.specs.Tables.{RowBecame}
-use Rattle.rows.proofs.Marks.{row-in}
-use Rattle.rows.proofs.Raise.{raised-as, raised-none, raised-mark, raised-then}
-use Rattle.rows.proofs.Row.{row-as, row-view, row-raised, row-cleared}
-use Rattle.rows.proofs.Tables.{cleared-mark, cleared-row}
+use Rattle.rows.specs.Marks.{bit, place, mark, marked}
+use Rattle.rows.specs.Tables.{Sized, rowView}
+use Rattle.rows.proofs.Row.{row-mark, row-inside}
 use Rattle.tables.specs.Call.{Call, Leaves}
 use Rattle.tables.specs.Sizes.{words, rowWrong}
 use Rattle.tables.proofs.Asking.{row-long}
 use Rattle.tables.proofs.Calls.{call-refused, call-does}
 use Rattle.paths.specs.Lists.{row, Holds}
 use Rattle.paths.specs.Search.{Searchable, Finds}
-use Rattle.paths.specs.Reached.{ReachedDefined, reachedDue, Fillable, Puttable}
-use Rattle.paths.proofs.Steps.{holds-uses, uses-holds}
-use Rattle.paths.proofs.Turning.{holds-in}
+use Rattle.paths.specs.Reached.{ReachedDefined, reachedDue, Fillable, Copied}
+use Rattle.paths.proofs.Going.{row-marked, marked-held}
+use Rattle.paths.proofs.Steps.{chain-in, holds-uses, uses-holds}
 
--- `put_one`
-module _ (R : ℕ) (ws : List ℕ) (seen : Bool) (r : ℕ) (ok : Puttable R ws) (l : r < R) where
-  pub one-place : (w : ℕ) → w ≡ words R → place w 0 r < length ws
-  one-place w e = rw e (row-in 1 R (words R) ws 0 r (omega arith) (ok .held .len) (omega arith) l)
+-- `copy`: the words before i are those of `seen`
+pub record Copying (seen row₀ row : List ℕ) (i : ℕ) : Type 0 where
+  pub high : i ≤ length row₀
+  pub long : length row ≡ length row₀
+  pub same : (k : ℕ) → k < i → at row k ≡ at seen k
 
-  pub one-seen : seen ≡ true → (w : ℕ) → w ≡ words R → (new : Bool) (to : List ℕ) → new ≡ not (mark w ws 0 r) → to ≡ marked w ws 0 r → Raised R (words R) ws to 0 (λ t. eqb t r && seen) new
-  one-seen e w ew new to p q =
-      rw (p, q, ew)
-      (raised-as (λ t. eqb t r && seen) (λ t lt. rw e (sym (and-true (eqb t r))))
-      (raised-mark R (words R) ws 0 r (omega arith) (ok .held .small) (one-place (words R) refl) l))
+module _ (seen row₀ : List ℕ) where
+  pub copy-start : Copying seen row₀ row₀ 0
+  copy-start = record { high = omega arith; long = refl; same = λ k l. absurd (omega arith) }
 
-  pub one-unseen : seen ≡ false → Raised R (words R) ws ws 0 (λ t. eqb t r && seen) false
-  one-unseen e = raised-none (λ t. eqb t r && seen) (ok .held .small) (λ t lt. rw e (and-false (eqb t r)))
-
--- `put`: the rules below i that are seen are marked
-pub record Putting (R : ℕ) (ws now : List ℕ) (seen : List Bool) (i : ℕ) (new : Bool) : Type 0 where
-  pub high : i ≤ R
-  pub raised : Raised R (words R) ws now 0 (λ t. ltb t i && row seen t) new
-
-module _ (R : ℕ) (ws : List ℕ) (ok : Puttable R ws) (seen : List Bool) where
-  pub put-start : Putting R ws ws seen 0 false
-  put-start = record { high = omega arith; raised = raised-none (λ t. ltb t 0 && row seen t) (ok .held .small) (λ t lt. rw (le-ltb t 0 (omega arith))) }
-
-  module _ (now : List ℕ) (i : ℕ) (x : Bool) (j : Putting R ws now seen i x) where
-    pub put-able : Puttable R now
-    put-able = record { few-rules = ok .few-rules; held = record { len = j .raised .long ∙ ok .held .len; small = j .raised .small } }
-
-    pub put-on : i < R → (next : List ℕ) (y on : Bool) → on ≡ row seen i → Raised R (words R) now next 0 (λ t. eqb t i && on) y → Putting R ws next seen (i + 1) (x || y)
-    put-on l next y on e k = record {
-      high = omega arith;
-      raised = raised-as (λ t. ltb t (i + 1) && row seen t) (λ t lt. rw e (below-more (row seen) t i)) (raised-then (omega arith) (j .raised) k);
+  module _ (row : List ℕ) (i : ℕ) (c : Copying seen row₀ row i) where
+    pub copy-on : i < length row → Copying seen row₀ (set row i (at seen i)) (i + 1)
+    copy-on lt = record {
+      high = omega (arith, c .long);
+      long = length-set row i (at seen i) ∙ c .long;
+      same = λ k l. elim (decLt k i) [
+        | yes b ↦ getD-set-other row i k (at seen i) 0 (λ d. omega arith) ∙ c .same k b
+        | no b ↦ let d : k ≡ i = omega arith in subst (λ z. at (set row i (at seen i)) z ≡ at seen z) (sym d) (getD-set-same row i (at seen i) 0 lt)
+      ];
     }
 
-    pub put-end : R ≤ i → Raised R (words R) ws now 0 (row seen) x
-    put-end l = raised-as (row seen) (λ t lt. rw (lt-ltb t i (omega arith))) (j .raised)
+    pub copy-end : length row ≤ i → Copied seen row₀ row
+    copy-end le = record { long = c .long; same = λ k l. c .same k (omega (arith, c .long)) }
 
--- steps from rule to rule stay below R
+-- the words of a row that are those of `seen` hold its marks
+module _ (R : ℕ) (seen row₀ to : List ℕ) (len : length row₀ ≡ words R) (c : Copied seen row₀ to) where
+  copied-mark : (r : ℕ) → r < words R * 32 → mark (words R) to 0 r ≡ mark 16 seen 0 r
+  unfolding mark
+  copied-mark r lt =
+      let a : place (words R) 0 r ≡ r / 32 = omega arith in
+      let b : place 16 0 r ≡ r / 32 = omega arith in
+      ap (λ z. bit (getD to z 0) (r % 32)) a ∙ ap (λ z. bit z (r % 32)) (c .same (r / 32) (omega (arith, len))) ∙ ap (λ z. bit (getD seen z 0) (r % 32)) (sym b)
+
+  copied-held : Sized 1 16 seen → Sized 1 (words R) to
+  copied-held h = record {
+    len = c .long ∙ len ∙ (let e : words R ≡ 1 * words R = omega arith in e);
+    small = λ i. elim (decLt i (length row₀)) [
+      | yes l ↦ rw (c .same i l) (h .small i)
+      | no l ↦ let e : getD to i 0 ≡ 0 = List·getD-eq-default to 0 (omega (arith, c .long)) in rw e (omega arith)
+    ];
+  }
+
+-- the steps of the search are those of the denoted grammar
 module _ (g : Flat) (w : WellFormed g) where
-  chain-in : {a b : ℕ} → Chain (Holds (g .owners) (g .starts) (g .symbols)) a b → b < g .rules
-  chain-in (one u) = holds-in (g .rules) (g .owners) (g .starts) (g .symbols) (g .costs) w _ _ u
-  chain-in (link u c) = chain-in c
-
-  reach-in : (r : ℕ) → Reach (Holds (g .owners) (g .starts) (g .symbols)) 0 r → r < g .rules
-  reach-in r (inl e) = omega (arith, w .sizes .rules-low)
-  reach-in r (inr c) = chain-in c
-
-  -- the steps of the search are those of the denoted grammar
   reach-uses : (r : ℕ) → Reach (Holds (g .owners) (g .starts) (g .symbols)) 0 r → Reach (Uses (denoted g)) 0 r
   reach-uses r (inl e) = inl e
   reach-uses r (inr c) = inr (chain-map (holds-uses g w) c)
@@ -93,53 +88,68 @@ module _ (g : Flat) (w : WellFormed g) where
   uses-reach r (inl e) = inl e
   uses-reach r (inr c) = inr (chain-map (uses-holds g w) c)
 
-  module _ (found : Bool) (seen : List Bool) (f : Finds (g .owners) (g .starts) (g .symbols) 0 (g .rules) found seen) where
-    -- a rule that there is not is not found
+  module _ (found : Bool) (seen : List ℕ) (f : Finds (g .owners) (g .starts) (g .symbols) 0 0 found seen) where
+    -- rule 0 is not found
     not-found : found ≡ false
     not-found = go found refl
       where
         go : (b : Bool) → found ≡ b → found ≡ false
-        go true e = absurd (omega (arith, chain-in (f .yes e)))
+        go true e = absurd (omega (arith, chain-in g w (f .yes e) .0))
         go false e = e
 
-    pub seen-reached : ReachedExact (denoted g) (row seen)
-    seen-reached r =
-        let x = f .all not-found r in
-        ((λ h. x .0 (uses-reach r (reached-reach (denoted g) r .0 h))), λ e. reached-reach (denoted g) r .1 (reach-uses r (x .1 e)))
+    -- with rule 0 the rules seen are the reached ones
+    module _ (all : List ℕ) (is : all ≡ marked 16 seen 0 0) where
+      all-row : (r : ℕ) → row all r ≡ (row seen r || eqb r 0)
+      all-row r = ap (λ z. row z r) is ∙ ap (λ z. z r) (row-marked seen (f .held) 0 (omega arith))
 
-    pub seen-in : (r : ℕ) → row seen r ≡ true → r < g .rules
-    seen-in r e = reach-in r (f .all not-found r .1 e)
+      pub all-held : Sized 1 16 all
+      all-held = rw is (marked-held seen (f .held) 0 (omega arith))
+
+      all-reach : (r : ℕ) → Reach (Holds (g .owners) (g .starts) (g .symbols)) 0 r → row all r ≡ true
+      all-reach r (inl e) = all-row r ∙ ap (λ z. row seen r || eqb z 0) e ∙ or-right (row seen r) (eqb-same 0)
+      all-reach r (inr c) = all-row r ∙ or-left (eqb r 0) (f .all not-found r .0 c)
+
+      reach-all : (r : ℕ) → row all r ≡ true → Reach (Holds (g .owners) (g .starts) (g .symbols)) 0 r
+      reach-all r e = elim (or-split (row seen r) (eqb r 0) (sym (all-row r) ∙ e)) [ inl k ↦ inr (f .all not-found r .1 k) | inr k ↦ inl (eqb-true r 0 k) ]
+
+      reach-in : (r : ℕ) → Reach (Holds (g .owners) (g .starts) (g .symbols)) 0 r → r < g .rules
+      reach-in r (inl e) = omega (arith, w .sizes .rules-low)
+      reach-in r (inr c) = chain-in g w c .1
+
+      module _ (ws to : List ℕ) (len : length ws ≡ words (g .rules)) (c : Copied all ws to) where
+        to-row : (r : ℕ) → r < words (g .rules) * 32 → mark (words (g .rules)) to 0 r ≡ row all r
+        to-row r lt = copied-mark (g .rules) all ws to len c r lt ∙ sym (row-mark 512 16 all r (omega (arith, w .sizes .rules-high)))
+
+        in-view : (r : ℕ) → r < g .rules → rowView (g .rules) (words (g .rules)) to r ≡ row all r
+        in-view r lt = row-mark (g .rules) (words (g .rules)) to r lt ∙ to-row r (omega arith)
+
+        into : (r : ℕ) → Reach (Holds (g .owners) (g .starts) (g .symbols)) 0 r → rowView (g .rules) (words (g .rules)) to r ≡ true
+        into r h = in-view r (reach-in r h) ∙ all-reach r h
+
+        back : (r : ℕ) → rowView (g .rules) (words (g .rules)) to r ≡ true → Reach (Holds (g .owners) (g .starts) (g .symbols)) 0 r
+        back r e = reach-all r (sym (in-view r (row-inside (g .rules) (words (g .rules)) to r e)) ∙ e)
+
+        no-spare : (r : ℕ) → g .rules ≤ r → (b : Bool) → row all r ≡ b → row all r ≡ false
+        no-spare r le true e = absurd (omega (arith, reach-in r (reach-all r e)))
+        no-spare r le false e = e
+
+        pub copied-defined : ReachedDefined g to
+        copied-defined = record {
+          held = copied-held (g .rules) all ws to len c all-held;
+          exact = λ r. ((λ h. into r (uses-reach r (reached-reach (denoted g) r .0 h))), λ e. reached-reach (denoted g) r .1 (reach-uses r (back r e)));
+          spare = λ r le lt. to-row r lt ∙ no-spare r le (row all r) refl;
+        }
 
 -- `reach`
-module _ (rules : ℕ) (owners starts symbols costs : List ℕ) (ws : List ℕ) (ok : Fillable (flat rules owners starts symbols costs) ws) (n : ℕ) (en : n ≡ rules) where
-  pub reach-search : Searchable n owners starts symbols 0 (replicate 512 false)
-  reach-search = record { costs = costs; well = subst (λ z. WellFormed (flat z owners starts symbols costs)) (sym en) (ok .well); isRule = omega (arith, ok .well .sizes .rules-low); unseen = refl }
+module _ (rules : ℕ) (owners starts symbols costs : List ℕ) (ws : List ℕ) (ok : Fillable (flat rules owners starts symbols costs) ws) where
+  pub reach-search : (n : ℕ) → n ≡ rules → Searchable n owners starts symbols 0 0 (replicate 16 0)
+  reach-search n en = record { costs = costs; well = subst (λ z. WellFormed (flat z owners starts symbols costs)) (sym en) (ok .well); isFrom = omega (arith, ok .well .sizes .rules-low); isTo = omega (arith, ok .well .sizes .rules-low); unseen = refl }
 
-  module _ (mid : List ℕ) (em : mid ≡ replicate (length ws) 0) where
-    zeros : mid ≡ replicate (words rules) 0
-    zeros = em ∙ ap (λ z. replicate z 0) (ok .long)
+  pub reach-short : length ws ≤ 16
+  reach-short = omega (arith, ok .long, ok .well .sizes .rules-high)
 
-    pub reach-put : Puttable n mid
-    reach-put = record { few-rules = omega (arith, ok .well .sizes .rules-high); held = rw (zeros, en) (cleared-row (words rules)) }
-
-    module _ (found : Bool) (seen : List Bool) (f : Finds owners starts symbols 0 n found seen) (x : Bool) (to : List ℕ) (y : Raised n (words n) mid to 0 (row seen) x) where
-      finds : Finds owners starts symbols 0 rules found seen
-      finds = subst (λ z. Finds owners starts symbols 0 z found seen) en f
-
-      raised : Raised rules (words rules) (replicate (words rules) 0) to 0 (row seen) x
-      raised = subst (λ z. Raised rules (words rules) z to 0 (row seen) x) zeros (subst (λ z. Raised z (words z) mid to 0 (row seen) x) en y)
-
-      became : RowBecame rules (words rules) (replicate (words rules) 0) to (row seen)
-      became = row-as rules (words rules) (replicate (words rules) 0) to _ (row seen)
-          (λ r l. ap (λ (z : Bool). z || row seen r) (ap (λ z. z r) (row-cleared rules (words rules) (words rules))))
-          (row-raised rules (words rules) (replicate (words rules) 0) to (row seen) x (omega arith) raised (cleared-row (words rules)))
-
-      pub reach-defined : ReachedDefined (flat rules owners starts symbols costs) to
-      reach-defined = record {
-        held = became .sized;
-        exact = rw (row-view rules (words rules) (replicate (words rules) 0) to (row seen) (seen-in (flat rules owners starts symbols costs) (ok .well) found seen finds) became) (seen-reached (flat rules owners starts symbols costs) (ok .well) found seen finds);
-        spare = λ r le lt. became .spare 0 r (omega arith) le lt ∙ cleared-mark (words rules) (words rules) 0 r;
-      }
+  pub reach-defined : (found : Bool) (seen : List ℕ) → Finds owners starts symbols 0 0 found seen → (all : List ℕ) → all ≡ marked 16 seen 0 0 → (to : List ℕ) → Copied all ws to → ReachedDefined (flat rules owners starts symbols costs) to
+  reach-defined found seen f all is to c = copied-defined (flat rules owners starts symbols costs) (ok .well) found seen f all is ws to (ok .long) c
 
 -- `fill_reached`
 module _ (g : Flat) (ws : List ℕ) (c : Checked) (is : checkedIs c ≡ checkOf g) (e : c ≡ Well) (n : ℕ) (en : n ≡ g .rules) (x : Bool) (ex : x ≡ rowWrong n ws) where

@@ -1,40 +1,27 @@
-// The search below `has_path`: links of each rule's productions, then rounds over the rules until one finds nothing to do.
+// The search below `has_path`: links of each rule's productions, then turn by turn the rules that it comes to.
 use grammar::inner::links;
 use grammar::inner::start_at;
 use grammar::inner::wide;
-use tables::inner::words_for;
-ghost use mathlib.Core.Bool.{_&&_};
-ghost use Prim.Native.Nat.{_<_};
-ghost use lib.Dec.{eqb};
+ghost use Prim.Native.Nat.{_≤_};
+ghost use lib.ListN.{length};
 ghost use Rattle.grammar.specs.Flat.{flat};
-ghost use Rattle.rows.specs.Marks.{Raised};
-ghost use Rattle.tables.specs.Sizes.{words};
-ghost use Rattle.paths.specs.Lists.{row, Is, Among, Holds, Goes};
-ghost use Rattle.paths.specs.Search.{Markable, Walkable, Begun, Ready, Turns, Searchable, Finds};
-ghost use Rattle.paths.specs.Reached.{Puttable, Fillable, ReachedDefined};
+ghost use Rattle.paths.specs.Lists.{work, Is, Among, Holds, Goes};
+ghost use Rattle.paths.specs.Search.{Markable, Walkable, Ready, Begun, Findable, Searchable, Finds};
+ghost use Rattle.paths.specs.Reached.{Copied, Fillable, ReachedDefined};
 
-// What a round came to: whether it found `to`, and whether it found nothing to do.
-pub struct Turn {
-    pub found: bool,
-    pub empty: bool,
-}
-
-// One symbol: whether it is `to`. Another rule that is not seen is to be done.
-fn symbol(s: u16, to: usize, seen: &[bool; 512], todo: &mut [bool; 512]) -> bool
-    requires { ⌜ Markable s (now seen) (now todo) ⌝ }
-    ensures { λ r. ⌜ Goes to (Is s) (now (seen .entry)) (now (todo .entry)) r (now (todo .exit)) ⌝ }
+// One symbol: a rule that is not seen is seen from now on and enters the list, which holds n. The number
+// modulo 512 is a rule's; a token's is looked up too, so that tokens and rules seen are passed by one test.
+fn symbol(s: u16, n: usize, list: &mut [u16], seen: &mut [u32; 16]) -> usize
+    requires { ⌜ Markable s (work n (now list) (now seen)) ⌝ }
+    ensures { λ r. ⌜ Goes (Is s) (work n (now (list .entry)) (now (seen .entry))) (work r (now (list .exit)) (now (seen .exit))) ⌝ }
 {
-    if s < 32768 {
-        return false;
+    let r = wide(s % 512);
+    if (s < 32768) | rows::inner::is_set(seen, 16, 0, r) {
+        return n;
     }
-    let r = wide(s - 32768);
-    if r == to {
-        return true;
-    }
-    if !seen[r] {
-        todo[r] = true;
-    }
-    false
+    rows::inner::set(seen, 16, 0, r);
+    list[n] = s % 512;
+    n + 1
 }
 
 // The symbols from a up to e.
@@ -42,21 +29,20 @@ fn prod(
     symbols: &[u16],
     a: usize,
     e: usize,
-    to: usize,
-    seen: &[bool; 512],
-    todo: &mut [bool; 512],
-) -> bool
-    requires { ⌜ Walkable (now symbols) a e (now seen) (now todo) ⌝ }
-    ensures { λ r. ⌜ Goes to (Among (now (symbols .entry)) a e) (now (seen .entry)) (now (todo .entry)) r (now (todo .exit)) ⌝ }
+    n: usize,
+    list: &mut [u16],
+    seen: &mut [u32; 16],
+) -> usize
+    requires { ⌜ Walkable (now symbols) a e (work n (now list) (now seen)) ⌝ }
+    ensures { λ r. ⌜ Goes (Among (now (symbols .entry)) a e) (work n (now (list .entry)) (now (seen .entry))) (work r (now (list .exit)) (now (seen .exit))) ⌝ }
 {
+    let mut m = n;
     let mut i = a;
     while i < e {
-        if symbol(symbols[i], to, seen, todo) {
-            return true;
-        }
+        m = symbol(symbols[i], m, list, seen);
         i += 1;
     }
-    false
+    m
 }
 
 // The productions of rule r, by their links.
@@ -64,65 +50,80 @@ fn rule(
     owners: &[u16],
     starts: &[u16],
     symbols: &[u16],
-    head: &[u16; 512],
-    next: &[u16; 4096],
+    head: &[u16],
+    next: &[u16],
     r: usize,
-    to: usize,
-    seen: &[bool; 512],
-    todo: &mut [bool; 512],
-) -> bool
-    requires { ⌜ Ready (now owners) (now starts) (now symbols) (now head) (now next) r (now seen) (now todo) ⌝ }
-    ensures { λ x. ⌜ Goes to (Holds (now (owners .entry)) (now (starts .entry)) (now (symbols .entry)) r) (now (seen .entry)) (now (todo .entry)) x (now (todo .exit)) ⌝ }
+    n: usize,
+    list: &mut [u16],
+    seen: &mut [u32; 16],
+) -> usize
+    requires { ⌜ Ready (now owners) (now starts) (now symbols) (now head) (now next) r (work n (now list) (now seen)) ⌝ }
+    ensures { λ x. ⌜ Goes (Holds (now (owners .entry)) (now (starts .entry)) (now (symbols .entry)) r) (work n (now (list .entry)) (now (seen .entry))) (work x (now (list .exit)) (now (seen .exit))) ⌝ }
 {
+    let mut m = n;
     let mut p = wide(head[r]);
     while p < owners.len() {
         let a = start_at(starts, p);
         let e = start_at(starts, p + 1);
-        if prod(symbols, a, e, to, seen, todo) {
-            return true;
-        }
+        m = prod(symbols, a, e, m, list, seen);
         p = wide(next[p]);
     }
-    false
+    m
 }
 
-// One turn of the source's loop: each rule that is to be done is done.
-fn round(
-    rules: usize,
+// First `from` has its turn, not seen since no step has led to it, then each rule of the list, until `to` is
+// seen or none is left.
+fn turns(
     owners: &[u16],
     starts: &[u16],
     symbols: &[u16],
-    head: &[u16; 512],
-    next: &[u16; 4096],
+    head: &[u16],
+    next: &[u16],
+    from: usize,
     to: usize,
-    seen: &mut [bool; 512],
-    todo: &mut [bool; 512],
-) -> Turn
-    requires { ⌜ Begun rules (now owners) (now starts) (now symbols) (now head) (now next) (now seen) (now todo) ⌝ }
-    ensures { λ x. ⌜ Turns rules (now (owners .entry)) (now (starts .entry)) (now (symbols .entry)) to (now (seen .entry)) (now (todo .entry)) (x .found) (x .empty) (now (seen .exit)) (now (todo .exit)) ⌝ }
+    list: &mut [u16],
+    seen: &mut [u32; 16],
+) -> bool
+    requires { ⌜ Begun (now owners) (now starts) (now symbols) (now head) (now next) from to (work 0 (now list) (now seen)) ⌝ }
+    ensures { λ x. ⌜ Finds (now (owners .entry)) (now (starts .entry)) (now (symbols .entry)) from to x (now (seen .exit)) ⌝ }
 {
-    let mut empty = true;
-    for r in 0..rules {
-        if !todo[r] {
-            continue;
+    let mut r = from;
+    let mut n: usize = 0;
+    let mut done: usize = 0;
+    loop {
+        n = rule(owners, starts, symbols, head, next, r, n, list, seen);
+        if rows::inner::is_set(seen, 16, 0, to) {
+            return true;
         }
-        seen[r] = true;
-        todo[r] = false;
-        empty = false;
-        if rule(owners, starts, symbols, head, next, r, to, seen, todo) {
-            return Turn {
-                found: true,
-                empty: false,
-            };
+        if n <= done {
+            return false;
         }
-    }
-    Turn {
-        found: false,
-        empty: empty,
+        r = wide(list[done]);
+        done += 1;
     }
 }
 
-// Rounds until one finds `to` or nothing to do; then `seen` has all rules that are reached.
+// Links the productions and searches, in lists that have room for the grammar.
+fn find(
+    owners: &[u16],
+    starts: &[u16],
+    symbols: &[u16],
+    from: usize,
+    to: usize,
+    head: &mut [u16],
+    next: &mut [u16],
+    list: &mut [u16],
+    seen: &mut [u32; 16],
+) -> bool
+    requires { ⌜ Findable (now owners) (now starts) (now symbols) from to (now head) (now next) (now list) (now seen) ⌝ }
+    ensures { λ x. ⌜ Finds (now (owners .entry)) (now (starts .entry)) (now (symbols .entry)) from to x (now (seen .exit)) ⌝ }
+{
+    links(owners, head, next);
+    turns(owners, starts, symbols, head, next, from, to, list, seen)
+}
+
+// Whether a step or more lead from `from` to `to`; if not, `seen` has all rules to which they lead. A small
+// grammar has short lists: to set long ones would take longer than to search it.
 pub fn search(
     rules: usize,
     owners: &[u16],
@@ -130,64 +131,51 @@ pub fn search(
     symbols: &[u16],
     from: usize,
     to: usize,
-    seen: &mut [bool; 512],
+    seen: &mut [u32; 16],
 ) -> bool
-    requires { ⌜ Searchable rules (now owners) (now starts) (now symbols) from (now seen) ⌝ }
-    ensures { λ r. ⌜ Finds (now (owners .entry)) (now (starts .entry)) (now (symbols .entry)) from to r (now (seen .exit)) ⌝ }
+    requires { ⌜ Searchable rules (now owners) (now starts) (now symbols) from to (now seen) ⌝ }
+    ensures { λ x. ⌜ Finds (now (owners .entry)) (now (starts .entry)) (now (symbols .entry)) from to x (now (seen .exit)) ⌝ }
 {
-    let mut head = [4096; 512];
-    let mut next = [4096; 4096];
-    links(owners, &mut head, &mut next);
-    let mut todo = [false; 512];
-    todo[from] = true;
-    loop {
-        let turn = round(
-            rules,
+    if (rules <= 64) & (owners.len() <= 64) {
+        return find(
             owners,
             starts,
             symbols,
-            &head,
-            &next,
+            from,
             to,
+            &mut [4096; 64],
+            &mut [0; 64],
+            &mut [0; 64],
             seen,
-            &mut todo,
         );
-        if turn.found {
-            return true;
-        }
-        if turn.empty {
-            return false;
-        }
     }
+    find(
+        owners,
+        starts,
+        symbols,
+        from,
+        to,
+        &mut [4096; 512],
+        &mut [0; 4096],
+        &mut [0; 512],
+        seen,
+    )
 }
 
-// Marks rule r in a row by rule if it is seen; whether that is new.
-fn put_one(rules: usize, seen: bool, r: usize, reached: &mut [u32]) -> bool
-    requires { ⌜ Puttable rules (now reached) × (r < rules) ⌝ }
-    ensures { λ x. ⌜ Raised rules (words rules) (now (reached .entry)) (now (reached .exit)) 0 (λ t. eqb t r && seen) x ⌝ }
+// Leaves the first words of `seen` in a row of at most 16.
+fn copy(seen: &[u32; 16], row: &mut [u32])
+    requires { ⌜ length (now row) ≤ 16 ⌝ }
+    ensures { λ _. ⌜ Copied (now (seen .entry)) (now (row .entry)) (now (row .exit)) ⌝ }
 {
-    if seen {
-        return rows::inner::set(reached, words_for(rules), 0, r);
+    let mut i: usize = 0;
+    while i < row.len() {
+        row[i] = seen[i];
+        i += 1;
     }
-    false
 }
 
-// Marks the rules that are seen in a row by rule; whether one is new.
-fn put(rules: usize, seen: &[bool; 512], reached: &mut [u32]) -> bool
-    requires { ⌜ Puttable rules (now reached) ⌝ }
-    ensures { λ x. ⌜ Raised rules (words rules) (now (reached .entry)) (now (reached .exit)) 0 (row (now (seen .entry))) x ⌝ }
-{
-    let mut new = false;
-    let mut r: usize = 0;
-    while r < rules {
-        let got = put_one(rules, seen[r], r, reached);
-        new = new | got;
-        r += 1;
-    }
-    new
-}
-
-// Leaves the reached rules in a row of its length: those that a search from rule 0 sees, for a rule that there is not.
+// Leaves the reached rules in a row of its length: rule 0, and those that a search from it sees. It looks for
+// rule 0 itself, which stands in no production, so that it never ends early.
 pub fn reach(
     rules: u16,
     owners: &[u16],
@@ -199,9 +187,8 @@ pub fn reach(
     requires { ⌜ Fillable (flat rules (now owners) (now starts) (now symbols) (now costs)) (now reached) ⌝ }
     ensures { λ _. ⌜ ReachedDefined (flat rules (now (owners .entry)) (now (starts .entry)) (now (symbols .entry)) (now (costs .entry))) (now (reached .exit)) ⌝ }
 {
-    let n = wide(rules);
-    let mut seen = [false; 512];
-    search(n, owners, starts, symbols, 0, n, &mut seen);
-    rows::inner::clear(reached, 0);
-    put(n, &seen, reached);
+    let mut seen = [0; 16];
+    search(wide(rules), owners, starts, symbols, 0, 0, &mut seen);
+    rows::inner::set(&mut seen, 16, 0, 0);
+    copy(&seen, reached);
 }

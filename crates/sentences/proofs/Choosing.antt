@@ -166,7 +166,7 @@ module _ (g : Flat) (cost choice₀ : List ℕ) (ok : Choosable g cost choice₀
     left = λ q l. ap (λ z. getD z q 4096) (ok .none) ∙ unpicked q;
   }
 
-  module _ (head next : List ℕ) (links : Linked (g .owners) head next 0) (r : ℕ) (choice : List ℕ) (c : Choosing g cost r choice) where
+  module _ (head next : List ℕ) (links : Linked 512 4096 (g .owners) head next 0) (r : ℕ) (choice : List ℕ) (c : Choosing g cost r choice) where
     pub choosing-end : g .rules ≤ r → FirstChoices g cost choice
     unfolding choicesOf
     choosing-end l = record { room = c .room; chosen = chosen-all (denoted g) (price g) (costsOf cost) (choicesOf choice) all }

@@ -13,6 +13,12 @@ Inv-loop rules owners starts symbols costs cost choice₀ head next r₀ r-end c
 abbrev μ-loop : tie.MeasureT-loop
 μ-loop rules owners starts symbols costs cost choice₀ head next r₀ r-end choice r = rules - r
 
+slice-aggregate-links : tie.Need-slice-aggregate-links Inv-loop μ-loop
+slice-aggregate-links c = search needs
+
+slice-aggregate-links-2 : tie.Need-slice-aggregate-links-2 Inv-loop μ-loop
+slice-aggregate-links-2 c = search needs
+
 links-requires : tie.Need-links-requires Inv-loop μ-loop
 links-requires c κs = search (needs, choice-links)
 
@@ -32,7 +38,7 @@ wide-requires-2 : tie.Need-wide-requires-2 Inv-loop μ-loop
 wide-requires-2 c κs = search needs
 
 cheapest-from-requires : tie.Need-cheapest-from-requires Inv-loop μ-loop
-cheapest-from-requires c κs = let w = c .before in let l = w .before .before in let k = l .before .before in let s = k .before .before .before .before .before .before .before .before in choosing-ready _ _ _ (s .pre) _ _ (k .links .ensures) _ _ (l .loop .inv) (omega arith) _ (w .wide2 .ensures .0)
+cheapest-from-requires c κs = let w = c .before in let l = w .before .before in let k = l .before .before .before .before in let s = k .before .before .before .before .before .before .before .before in choosing-ready _ _ _ (s .pre) _ _ (k .links .ensures) _ _ (l .loop .inv) (omega arith) _ (w .wide2 .ensures .0)
 
 cast-choice : tie.Need-cast-choice Inv-loop μ-loop
 cast-choice c = search needs
@@ -50,10 +56,10 @@ loop-less : tie.Need-loop-less Inv-loop μ-loop
 loop-less c = search needs
 
 loop-again : tie.Need-loop-again Inv-loop μ-loop
-loop-again c = let w = c .before .before in let l = w .before .before in let k = l .before .before in let s = k .before .before .before .before .before .before .before .before in choosing-on _ _ _ (s .pre) _ _ (k .links .ensures) _ _ (l .loop .inv) (omega arith) _ (w .wide2 .ensures .0) _ (c .cheapest-from .ensures)
+loop-again c = let w = c .before .before in let l = w .before .before in let k = l .before .before .before .before in let s = k .before .before .before .before .before .before .before .before in choosing-on _ _ _ (s .pre) _ _ (k .links .ensures) _ _ (l .loop .inv) (omega arith) _ (w .wide2 .ensures .0) _ (c .cheapest-from .ensures)
 
 returns : tie.Need-returns Inv-loop μ-loop
-returns c = let l = c .before in let k = l .before .before in let s = k .before .before .before .before .before .before .before .before in choosing-end _ _ _ (s .pre) _ _ (k .links .ensures) _ _ (l .loop .inv) (omega arith)
+returns c = let l = c .before in let k = l .before .before .before .before in let s = k .before .before .before .before .before .before .before .before in choosing-end _ _ _ (s .pre) _ _ (k .links .ensures) _ _ (l .loop .inv) (omega arith)
 
 pub choices-spec : {M : Type 1} → statement M
 choices-spec =
@@ -61,6 +67,8 @@ choices-spec =
     (tie.spec
     Inv-loop
     μ-loop
+    slice-aggregate-links
+    slice-aggregate-links-2
     links-requires
     wide-requires
     loop-holds

@@ -1,5 +1,4 @@
 use Rattle.listings.proofs.Asking.{ask-count-refused, ask-work, ask-count, ask-counted}
-use native.Mathlib.Omega.{arith}
 use borrow.Author.Needs.{needs}
 use Rattle.listings.proofs.count_min_sentences.Statement.{statement}
 use Rattle.listings.proofs.count_min_sentences.Tie as tie

@@ -1,5 +1,4 @@
 use Rattle.listings.proofs.Asking.{ask-number-refused, ask-work, ask-number, ask-numbered}
-use native.Mathlib.Omega.{arith}
 use borrow.Author.Needs.{needs}
 use Rattle.listings.proofs.min_sentence_at.Statement.{statement}
 use Rattle.listings.proofs.min_sentence_at.Tie as tie

@@ -1,5 +1,4 @@
 use Rattle.listings.proofs.Saying.{count-12, count-13, count-14, count-16, count-are}
-use native.Mathlib.Omega.{arith}
 use borrow.Author.Needs.{needs}
 use Rattle.listings.proofs.inner.count_answer.Statement.{statement}
 use Rattle.listings.proofs.inner.count_answer.Tie as tie

@@ -1,6 +1,5 @@
 use Rattle.grammar.proofs.Callers.{few-rules}
 use Rattle.listings.proofs.Asking.{due-grammar, due-7, due-9, due-none}
-use native.Mathlib.Omega.{arith}
 use borrow.Author.Needs.{needs}
 use Rattle.listings.proofs.inner.due.Statement.{statement}
 use Rattle.listings.proofs.inner.due.Tie as tie

@@ -1,5 +1,4 @@
 use Rattle.listings.proofs.Saying.{number-count, number-refused, number-past, number-measure, number-write, number-is, number-long}
-use native.Mathlib.Omega.{arith}
 use borrow.Author.Needs.{needs}
 use Rattle.listings.proofs.inner.number_answer.Statement.{statement}
 use Rattle.listings.proofs.inner.number_answer.Tie as tie

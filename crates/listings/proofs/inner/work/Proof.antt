@@ -1,5 +1,4 @@
 use Rattle.listings.proofs.Working.{work-sentence, work-links, work-counts, work-done}
-use native.Mathlib.Omega.{arith}
 use borrow.Author.Needs.{needs}
 use Rattle.listings.proofs.inner.work.Statement.{statement}
 use Rattle.listings.proofs.inner.work.Tie as tie

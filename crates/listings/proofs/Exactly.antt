@@ -64,7 +64,7 @@ counts-said x (circular y) = x .circular y
 counts-said x (many l h) = x .many l h
 counts-said x (is l h) = x .is l h
 
--- what becomes of number i, with so much room
+-- what becomes of number k, with so much room
 pub data Row (g : Flat) (c : Costs) (r i : ℕ) (out : List ℕ) : Type 0 where
   row-none : (Productive (denoted g) r → ⊥) → Row g c r i out
   row-dear : Dear g r → Row g c r i out

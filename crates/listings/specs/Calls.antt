@@ -1,4 +1,4 @@
--- All cheapest sentences: the working tables are filled, then the sentences are counted, or number i is written, or 12 to 16 given.
+-- All cheapest sentences: the working tables are filled, then the sentences are counted, or number k is written, or 12 to 16 given.
 use mathlib.Core.Bool.{not, _||_}
 use mathlib.Core.List.{List}
 use mathlib.Core.Logic.{_⊎_}
@@ -62,6 +62,7 @@ dueBy g r productive cost lengths counts =
     (unless (not (eqb productive (words (g .rules))) || (not (eqb cost (g .rules)) || (not (eqb lengths (g .rules)) || not (eqb counts (g .rules))))) 7
     (unless (leb (g .rules) r) 9 (answers tt)))
 
+-- the same of the tables
 abbrev pub allDue : Flat → ℕ → Work → Outcome (Unit {0})
 allDue g r w = dueBy g r (length (w .productive)) (length (w .cost)) (length (w .lengths)) (length (w .counts))
 
@@ -79,28 +80,29 @@ pub record Counts (g : Flat) (c : Costs) (r : ℕ) (said : Outcome ℕ) : Type 0
   pub many : Lists g c r → 65535 < length (listed (denoted g) (price g) c r) → said ≡ refused 16
   pub is : Lists g c r → length (listed (denoted g) (price g) c r) ≤ 65535 → said ≡ answers (length (listed (denoted g) (price g) c r))
 
--- number i: 12 to 14 as above, 16 if there are more than 65535 or i is the count or more,
+-- number k: 12 to 14 as above, 16 if there are more than 65535 or k is the count or more,
 -- 15 if the sentence is longer than 65535 or than the room lent, else the sentence
-pub record Numbers (g : Flat) (c : Costs) (r i : ℕ) (out : List ℕ) (said : Outcome ℕ) (out′ : List ℕ) : Type 0 where
+pub record Numbers (g : Flat) (c : Costs) (r k : ℕ) (out : List ℕ) (said : Outcome ℕ) (out′ : List ℕ) : Type 0 where
   pub none : (Productive (denoted g) r → ⊥) → Refuses 12 out said out′
   pub dear : Productive (denoted g) r → ((w : List ℕ) → Sentence (denoted g) r w → 65536 ≤ costOf (price g) w) → Refuses 13 out said out′
   pub circular : Circular (denoted g) (price g) c r → Refuses 14 out said out′
-  pub past : Lists g c r → (65535 < length (listed (denoted g) (price g) c r)) ⊎ (length (listed (denoted g) (price g) c r) ≤ i) → Refuses 16 out said out′
-  pub long : Lists g c r → length (listed (denoted g) (price g) c r) ≤ 65535 → i < length (listed (denoted g) (price g) c r)
-      → (65535 < length (sentenceAt (denoted g) (price g) c r i)) ⊎ (length out < length (sentenceAt (denoted g) (price g) c r i)) → Refuses 15 out said out′
-  pub is : Lists g c r → length (listed (denoted g) (price g) c r) ≤ 65535 → i < length (listed (denoted g) (price g) c r)
-      → length (sentenceAt (denoted g) (price g) c r i) ≤ 65535 → length (sentenceAt (denoted g) (price g) c r i) ≤ length out → Writes (sentenceAt (denoted g) (price g) c r i) out said out′
+  pub past : Lists g c r → (65535 < length (listed (denoted g) (price g) c r)) ⊎ (length (listed (denoted g) (price g) c r) ≤ k) → Refuses 16 out said out′
+  pub long : Lists g c r → length (listed (denoted g) (price g) c r) ≤ 65535 → k < length (listed (denoted g) (price g) c r)
+      → (65535 < length (sentenceAt (denoted g) (price g) c r k)) ⊎ (length out < length (sentenceAt (denoted g) (price g) c r k)) → Refuses 15 out said out′
+  pub is : Lists g c r → length (listed (denoted g) (price g) c r) ≤ 65535 → k < length (listed (denoted g) (price g) c r)
+      → length (sentenceAt (denoted g) (price g) c r k) ≤ 65535 → length (sentenceAt (denoted g) (price g) c r k) ≤ length out → Writes (sentenceAt (denoted g) (price g) c r k) out said out′
 
 -- the count call: the tables are final, whatever is said
 pub record CountDone (g : Flat) (r : ℕ) (said : Outcome ℕ) (after : Work) : Type 0 where
   pub final : Final g after
   pub counts : Counts g (costsOf (after .cost)) r said
 
+-- the promise of the count
 abbrev pub CountMinSentences : Flat → ℕ → (productive cost lengths counts : List ℕ) → Counted → (productive′ cost′ lengths′ counts′ : List ℕ) → Type 0
 CountMinSentences g r productive cost lengths counts a productive′ cost′ lengths′ counts′ =
     Call (allDue g r (work productive cost lengths counts)) (CountDone g r) (work productive cost lengths counts) (countedIs a) (work productive′ cost′ lengths′ counts′)
 
--- the writing call: the tables, and the output
+-- what the call that writes is lent: the tables, and the output
 pub record Lends : Type 0 where
   pub tables : Work
   pub out : List ℕ
@@ -108,10 +110,12 @@ pub record Lends : Type 0 where
 abbrev pub lends : Work → List ℕ → Lends
 lends w out = record { tables = w; out = out }
 
-pub record NumberDone (g : Flat) (r i : ℕ) (out : List ℕ) (said : Outcome ℕ) (after : Lends) : Type 0 where
+-- that call: the tables are final, whatever is said
+pub record NumberDone (g : Flat) (r k : ℕ) (out : List ℕ) (said : Outcome ℕ) (after : Lends) : Type 0 where
   pub final : Final g (after .tables)
-  pub numbers : Numbers g (costsOf (after .tables .cost)) r i out said (after .out)
+  pub numbers : Numbers g (costsOf (after .tables .cost)) r k out said (after .out)
 
+-- the promise of number k
 abbrev pub MinSentenceAt : Flat → ℕ → ℕ → (productive cost lengths counts out : List ℕ) → Answer → (productive′ cost′ lengths′ counts′ out′ : List ℕ) → Type 0
-MinSentenceAt g r i productive cost lengths counts out a productive′ cost′ lengths′ counts′ out′ =
-    Call (allDue g r (work productive cost lengths counts)) (NumberDone g r i out) (lends (work productive cost lengths counts) out) (lengthIs a) (lends (work productive′ cost′ lengths′ counts′) out′)
+MinSentenceAt g r k productive cost lengths counts out a productive′ cost′ lengths′ counts′ out′ =
+    Call (allDue g r (work productive cost lengths counts)) (NumberDone g r k out) (lends (work productive cost lengths counts) out) (lengthIs a) (lends (work productive′ cost′ lengths′ counts′) out′)

@@ -1,4 +1,4 @@
-"""The 22 calls of bindings/include/boltmarrow.h once more, in plain Python, on arbitrary lists and numbers. They are
+"""The 24 calls of bindings/include/boltmarrow.h once more, in plain Python, on arbitrary lists and numbers. They are
 written from documents 01 and 02, over the definitions and visits of plain.py: here are the tables as words, their
 lengths and the calls' own refusals. A block file is written by bin/blocks. A call changes the lists that it is lent,
 and returns its values or raises plain.Refused.
@@ -13,8 +13,8 @@ LISTS = 4096, 4097, 16384, 512  # the lengths of the lists that the file reader 
 
 
 class Call(NamedTuple):
-    takes: str  # behind the grammar: numbers by what they count; lists of words: marks, row, reached (a row), entries;
-    # room and bytes
+    takes: str  # behind the grammar: numbers by what they count, k one of 32 bits; lists of words: marks, row, reached
+    # (a row), entries, counts (entries); room and bytes
     refusals: tuple  # its own; besides, each gives 1 to 6
     values: int  # the values of an answer
     make: object
@@ -225,6 +225,28 @@ def min_sentence(g, rule, productive, cost, lengths, out):
     return [len(sentence)]
 
 
+def need_lists(g, rule, productive, cost, lengths, counts):
+    """The refusals before the work of the two calls on all cheapest sentences, and then their tables."""
+    entries = [(table, cost_length) for table in (cost, lengths, counts)]
+    need(g, [(productive, row_length), *entries], rules=[rule])
+    productive_fill(g, productive)
+    cost_fill(g, cost)
+    lengths[:] = plain.lengths(g)
+    counts[:] = plain.counts(g)
+
+
+def count_min_sentences(g, rule, productive, cost, lengths, counts):
+    need_lists(g, rule, productive, cost, lengths, counts)
+    return [plain.sentence_count(g, rule)]
+
+
+def min_sentence_at(g, rule, k, productive, cost, lengths, counts, out):
+    need_lists(g, rule, productive, cost, lengths, counts)
+    sentence = plain.sentence_at(g, rule, k, len(out))
+    out[: len(sentence)] = sentence
+    return [len(sentence)]
+
+
 def write_blocks(g, version, out):
     if version not in (1, 2):
         raise Refused(26)
@@ -269,6 +291,8 @@ CALLS = {
     "follow_visit": Call("mode prod marks marks row reached", (7, 8, 11), 1, follow_visit),
     "follow_fill": Call("mode marks marks row reached", (7, 8), 1, follow_fill),
     "min_sentence": Call("rule row entries entries room", (7, 9, 12, 13, 14, 15), 1, min_sentence),
+    "count_min_sentences": Call("rule row entries entries counts", (7, 9, 12, 13, 14, 16), 1, count_min_sentences),
+    "min_sentence_at": Call("rule k row entries entries counts room", (7, 9, 12, 13, 14, 15, 16), 1, min_sentence_at),
     "write_blocks": Call("version bytes", (24, 25, 26), 1, write_blocks),
     "read_blocks": Call("", (7, 20, 21, 22, 23, 25), 5, read_blocks),
 }

@@ -9,12 +9,14 @@ is not given to the Rust, which builds none; ours is then held to tools/plain.py
 
 FIRST, EMPTY, mode 1 FOLLOW and all paths must be equal; so must the costs where the Rust returns, and a sentence where
 it returns and no production used has a rule followed by a token or by a rule whose sentence is not empty. At such a
-place the Rust's sentence must be the one that taking the rest again gives. Where the Rust does not return, or panics,
-the grammar must have what the named difference says, worked out from the grammar alone; if it runs out of time without
-such a reason, it is asked again with more time, which is counted. What we answer there must be what document 01 says.
-The reached rules must be rule 0 and those to which the Rust has a path from it; mode 2 FOLLOW must be what the
-documents say, and hold what the Rust's rule gives over the productions of reached rules. Each kind is counted, and each
-kind of difference shown with the smallest grammar that has it; the program exits with 1 if one is not explained.
+place the Rust's sentence must be the one that taking the rest again gives. The list of all cheapest sentences must be
+that of the Rust's min_sentences, row by row, where it is short and the Rust returns. Where the Rust does not return, or
+panics, the grammar must have what the named difference says, worked out from the grammar alone; if it runs out of time
+without such a reason, it is asked again with more time, which is counted. What we answer there must be what the
+documents say. The reached rules must be rule 0 and those to which the Rust has a path from it; mode 2 FOLLOW must be
+what the documents say, and hold what the Rust's rule gives over the productions of reached rules. Each kind is counted,
+and each kind of difference shown with the smallest grammar that has it; the program exits with 1 if one is not
+explained.
 """
 import collections
 import concurrent.futures
@@ -31,7 +33,7 @@ import grammars
 import plain
 from block_text import TOP
 from named import SAID, named, refused, returned
-from reading import Reading
+from reading import STEPS, Reading
 
 ORACLE = [str(TOP / "target" / "oracle" / "oracle")]
 WORKERS = 2
@@ -39,7 +41,6 @@ LARGE_EVERY = 2000  # so many random grammars from a large one to the next, whic
 UNEXPLAINED = "UNEXPLAINED "
 STOPPED = ("out of time", "out of memory")
 AGAIN = 20  # times the time for a grammar on which the Rust ran out of it without a reason
-STEPS = 100_000  # so many steps of min_sentence fit well into the oracle's time
 # Whether FOLLOW of mode 2 has marks that the Rust has not, and whether the Rust has marks that it has not.
 MODE_2 = {
     (False, False): "FOLLOW, mode 2: the same",
@@ -57,19 +58,22 @@ def part(answer, path):
 
 
 class Asked:
-    """A program that answers a grammar a line with a line of JSON."""
+    """A program that answers a grammar a line, and rules whose lists are asked for, with a line of JSON."""
 
     def __init__(self, words):
         self.words = words
         self.program = subprocess.Popen(words, stdin=subprocess.PIPE, stdout=subprocess.PIPE, text=True)
 
-    def __call__(self, g):
-        self.program.stdin.write(grammars.line(g) + "\n")
+    def __call__(self, g, rules=()):
+        self.program.stdin.write(" ".join([grammars.line(g), str(len(rules)), *map(str, rules)]) + "\n")
         self.program.stdin.flush()
         answer = self.program.stdout.readline()
         if not answer:
             raise SystemExit(f"compare: {self.words} ended at {grammars.shown(g)}")
-        return json.loads(answer)
+        answer = json.loads(answer)
+        if "lists" in answer:
+            answer["lists"] = dict(zip(rules, answer["lists"], strict=True))
+        return answer
 
 
 def outcome(call, *words):
@@ -81,7 +85,13 @@ def outcome(call, *words):
     return returned(*(answer if isinstance(answer, list) else [int(answer)]))
 
 
-def plain_answer(g):
+def plain_list(g, r):
+    """All cheapest sentences of a rule, by their numbers."""
+    found = plain.numbered(g, r)
+    return [found.row(r, k) for k in range(found.counts[r])]
+
+
+def plain_answer(g, listed=()):
     """What tools/plain.py answers, in the form of target/c/ask."""
     if plain.refusal(g):
         return refused(plain.refusal(g))
@@ -97,7 +107,15 @@ def plain_answer(g):
                    outcome(plain.has_path, g, 0, g.rules)],
         "costs": [outcome(plain.sentence_cost, g, r) for r in rules],
         "sentences": [outcome(plain.sentence, g, r) for r in rules],
+        "counts": [outcome(plain.sentence_count, g, r) for r in rules],
+        "lists": {r: outcome(plain_list, g, r) for r in listed},
     }
+
+
+def said_lists(name):
+    """The rules of whose lists something is said, in a grammar with a name."""
+    parts = [said[1].split() for said in SAID if said[0] == name]
+    return [int(words[1]) for words in parts if words[0] == "lists"]
 
 
 def kind_of(outcome):
@@ -156,30 +174,36 @@ class Comparer(Comparison):
             self.unexplained(f"{kind}: differs", f"the Rust {rust}, ours {ours}")
 
     def compare(self, shape, name, g):
-        self.name, self.g, self.ours = name, g, self.ask_ours(g)
+        self.name, self.g, well = name, g, plain.refusal(g) == 0
         self.shapes[shape] += 1
-        if plain.refusal(g) == 0 and not plain.built(g):
+        if well:
+            self.reading = Reading(g)
+        self.listed = sorted({*self.reading.listed(), *said_lists(name)}) if well else []
+        self.ours = self.ask_ours(g, self.listed)
+        if well and not plain.built(g):
             self.alone()
             return
-        self.rust = self.ask_rust(g)
+        self.rust = self.ask_rust(g, self.listed)
         if "refused" in self.ours:
             self.same("a grammar refused", plain.refusal(g), self.ours["refused"])
         else:
-            self.reading = Reading(g)
             if self.hurried():
                 self.count(f"asked again, with {AGAIN} times the time")
-                self.rust = self.ask_patiently(g)
+                self.rust = self.ask_patiently(g, self.listed)
             self.tables()
             self.costs()
             for r in range(g.rules):
                 self.sentence(r)
+                self.counted(r)
+            for r in self.listed:
+                self.list(r)
         for said in SAID:
             if said[0] == name:
                 self.said(*said[1:])
 
     def alone(self):
         """Rule 0 owns several productions, so the Rust is not asked."""
-        due = plain_answer(self.g)
+        due = plain_answer(self.g, self.listed)
         if self.ours == due:
             self.count("several productions of rule 0, not given to the Rust: ours is document 01's")
         else:
@@ -190,9 +214,12 @@ class Comparer(Comparison):
         it does with more time is what counts."""
         read = self.reading
         late = [r for r, outcome in enumerate(self.rust["sentences"]) if outcome in STOPPED]
+        late_lists = [r for r, outcome in self.rust["lists"].items() if outcome in STOPPED and not read.made_again(r)]
         if read.endless is not None:
-            return any(not read.asks(r) for r in late)
-        return self.rust["costs"] in STOPPED or any(r not in read.choice or read.steps(r) <= STEPS for r in late)
+            return any(not read.asks(r) for r in late + late_lists)
+        if self.rust["costs"] in STOPPED or late_lists:
+            return True
+        return any(r not in read.choice or read.steps(r) <= STEPS for r in late)
 
     def said(self, rust_part, rust, ours_part, ours):
         seen = part(self.rust, rust_part), part(self.ours, ours_part)
@@ -259,6 +286,45 @@ class Comparer(Comparison):
             self.both(r, outcome, ours)
         else:
             self.unexplained(f"sentence: {kind}", f"rule {r}")
+
+    def counted(self, r):
+        """How many cheapest sentences ours has."""
+        ours, due = self.ours["counts"][r], self.reading.count(r)
+        if ours != due:
+            self.unexplained("list: our count is not document 02's", f"rule {r}: {ours} and not {due}")
+        elif r not in self.listed:
+            answer = f"refused {ours['refused']}" if "refused" in ours else "longer than is asked of the Rust"
+            self.count(f"list: not asked of the Rust: here {answer}")
+
+    def list(self, r):
+        outcome, ours, due = self.rust["lists"][r], self.ours["lists"][r], self.reading.list(r)
+        kind = kind_of(outcome)
+        if ours != due:
+            self.unexplained("list: ours is not document 02's", f"rule {r}: {ours} and not {due}")
+        elif "refused" in ours:
+            gives = "returns one" if kind == "returned" else "gives none"
+            self.differs(f"list: the Rust {gives}: here refused {ours['refused']}")
+        elif self.reading.asks(r) and kind_of(self.rust["costs"]) != "returned":
+            self.list_without_costs(r, kind)
+        elif self.reading.dear(self.reading.used_by_list(r)):
+            if kind == "panicked":
+                self.differs("list: the Rust panics: its own sum above 65535")
+            else:
+                self.unexplained(f"list: {kind}, its own sum above 65535", f"rule {r}")
+        elif kind in STOPPED and self.reading.made_again(r):
+            self.differs("list: the Rust does not return: lists made again, over 100,000 steps")
+        elif kind == "returned":
+            rows = len(due["returned"])
+            self.same("list of one row" if rows == 1 else "list of several rows", outcome, ours)
+            self.kinds["rows of these lists"] += rows
+        else:
+            self.unexplained(f"list: {kind}", f"rule {r}")
+
+    def list_without_costs(self, r, kind):
+        if kind in STOPPED and self.reading.endless or kind == "panicked" and self.reading.overflows:
+            self.differs("list: the Rust gives none, since its costs are not given: here a list")
+        else:
+            self.unexplained(f"list: {kind}, costs not given", f"rule {r}")
 
     def without_costs(self, r, kind, ours):
         if kind in STOPPED and self.reading.endless or kind == "panicked" and self.reading.overflows:

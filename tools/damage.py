@@ -5,10 +5,11 @@
 A call's grammar is of a shape of tools/grammars.py, in one of four with further productions of rule 0; as it is or with
 refusals made due, one or two, or a list cut, lengthened, emptied or with an entry replaced. Tables hold anything, spare
 bits and entries above 65536 included, and may be of a wrong length; a reached row may be the finished one too, or that
-with a mark changed or spare bits set; numbers may be out of range, room short. A block file is of either version and
-has what a file can have wrong; one that is written must be bin/blocks' own. The answer and every element of every list
-must be equal. It prints how often each call gave each refusal, 0 for an answer; it exits with 1 if an answer differs,
-or if of the usual number of calls none gave some refusal that the call can give.
+with a mark changed or spare bits set; numbers may be out of range, room short; of the calls on all cheapest sentences
+many grammars have equal choices, circles or some 65535 rows, and k is around the count. A block file is of either
+version and has what a file can have wrong; one that is written must be bin/blocks' own. The answer and every element of
+every list must be equal. It prints how often each call gave each refusal, 0 for an answer; it exits with 1 if an answer
+differs, or if of the usual number of calls none gave some refusal that the call can give.
 """
 import array
 import collections
@@ -35,14 +36,16 @@ ENTRIES = 0, 1, 2, MOST - 2, MOST - 1, MOST, MOST + 1, MOST + 2, WORD
 SLOW = ["long_sentences", "single_file", "many_rules", "wide_both", "wide_tokens"]
 QUICK = [name for name in grammars.shapes if name not in SLOW and name not in grammars.large]
 SENTENCES = ["min_sentence_cost", "min_sentence"]
+LISTS = ["count_min_sentences", "min_sentence_at"]
 VISITS = ["cost_visit", "follow_visit"]
 REACHED = ["follow_visit", "follow_fill", "reached_fill"]
 # The calls to draw from: more of those with many refusals or cases. File reads have the longest lists.
 DRAWN = [name for name in calls.CALLS if name != "read_blocks"] * 2 + SENTENCES * 6 + VISITS * 3 + ["read_blocks"] * 3
-DRAWN += ["write_blocks"] * 2 + ["follow_visit"] * 4
+DRAWN += ["write_blocks"] * 2 + ["follow_visit"] * 4 + LISTS * 4 + ["min_sentence_at"] * 4
 # The shapes that show most of a call: sentences that are refused, visits that read what they have written, rules that
 # are not reached, files of several blocks.
 TELLING = {name: ["no_sentence", "dear", "dear_flat", "unit_cycles"] for name in SENTENCES}
+TELLING |= {name: ["equal_choices"] * 5 + ["unit_cycles", "no_sentence", "dear_flat", "layered"] for name in LISTS}
 TELLING |= {name: ["own_rule", "empty_chains", "right_recursion"] for name in VISITS}
 TELLING |= {name: TELLING.get(name, []) + ["unreached", "unreached", "many_rules"] for name in REACHED}
 TELLING |= {"write_blocks": ["wide_tokens", "wide_both", "many_rules", "dear_flat"]}
@@ -128,7 +131,7 @@ def any_reached(draw, g):
 
 
 def any_entries(draw, length):
-    """Costs or lengths: none known, edges, or anything."""
+    """Costs, lengths or counts: none known, edges, or anything."""
     length = any_length(draw, length)
     kind = draw.randrange(5)
     if kind == 0:
@@ -138,10 +141,21 @@ def any_entries(draw, length):
     return [draw.choice((draw.randint(0, MOST), draw.getrandbits(32))) for _ in range(length)]
 
 
-def any_room(draw, g, rule):
-    """Room for the output: as long as the sentence, if there is one, one shorter or longer, or any."""
+def any_k(draw, g, rule):
+    """The number of a sentence in the rule's list, the last one's, the count, or any of 32 bits."""
     try:
-        exact = len(plain.sentence(g, rule))
+        count = plain.sentence_count(g, rule)
+    except plain.Refused:
+        count = draw.choice((1, 4, MOST))
+    some = 0, count - 1, draw.randrange(count), draw.randrange(count)
+    return draw.choice((*some, *some, count, count + 1, MOST, MOST + 1, WORD, draw.getrandbits(32)))
+
+
+def any_room(draw, g, rule, *k):
+    """Room for the output: as long as the sentence, number k if that is given, if there is one, one shorter or longer,
+    or any."""
+    try:
+        exact = len(plain.sentence_at(g, rule, *k) if k else plain.sentence(g, rule))
     except plain.Refused:
         exact = draw.randint(0, 9)
     length = draw.choice((exact, exact, max(exact - 1, 0), exact + 1, 0, exact + draw.randint(0, 9)))
@@ -167,7 +181,9 @@ PARAMETERS = {
     "row": lambda draw, g, _: any_marks(draw, calls.row_length(g)),
     "reached": lambda draw, g, _: any_reached(draw, g),
     "entries": lambda draw, g, _: any_entries(draw, calls.cost_length(g)),
-    "room": lambda draw, g, before: any_room(draw, g, before[0]),
+    "counts": lambda draw, g, _: any_entries(draw, calls.cost_length(g)),
+    "k": lambda draw, g, before: any_k(draw, g, before[0]),
+    "room": lambda draw, g, before: any_room(draw, g, *(each for each in before if isinstance(each, int))),
     "bytes": lambda draw, g, _: any_bytes(draw, g),
 }
 
@@ -248,7 +264,8 @@ def any_call(draw):
     name = draw.choice(DRAWN)
     if name == "read_blocks":
         return name, [list(any_file(draw)), *any_lists(draw)]
-    g = any_grammar(draw, TELLING.get(name, QUICK) if draw.random() < 0.6 else QUICK)
+    many = name in LISTS and draw.random() < 0.04
+    g = any_grammar(draw, ["many_rows"] if many else TELLING.get(name, QUICK) if draw.random() < 0.6 else QUICK)
     if name == "write_blocks":
         # in some all tokens are dear, so that a block's bytes add up to more than 65535
         g = g._replace(costs=[255] * len(g.costs)) if draw.random() < 0.3 else stored(draw, g)
@@ -304,9 +321,9 @@ def batch(draw, count, program, counts):
 def table(counts):
     """The counts by call and by refusal, 0 for an answer."""
     numbers = sorted({number for _, number in counts})
-    yield f"{'':18}" + "".join(f"{number:>6}" for number in numbers)
+    yield f"{'':20}" + "".join(f"{number:>6}" for number in numbers)
     for name in calls.CALLS:
-        yield f"{name:18}" + "".join(f"{counts[name, number] or '':>6}" for number in numbers)
+        yield f"{name:20}" + "".join(f"{counts[name, number] or '':>6}" for number in numbers)
 
 
 def never(counts):

@@ -334,7 +334,17 @@ def one_limit(draw):
     return shuffled(draw, len(rules) + 1, any_costs(draw, len(tokens), 1), bodies)
 
 
-large = {shape.__name__: shape for shape in (most_rules, one_limit, at_limits)}
+def many_rows(draw):
+    """Around 65535 cheapest sentences: a rule of two rules, each with so many productions of one token, and some
+    productions of two tokens; every token costs the same."""
+    tokens, sizes = range(draw.randint(1, 3)), draw.choice(((255, 257), (256, 256), (254, 258), (254, 258)))
+    bodies = [(r, [draw.choice(tokens)]) for r in (1, 2) for _ in range(sizes[r - 1])]
+    bodies += [(3, [RULE + 1, RULE + 2])] + [(3, [draw.choice(tokens)] * 2) for _ in range(draw.randint(0, 4))]
+    bodies += [(4, [RULE + 3] + [draw.choice(tokens)] * draw.randint(0, 1))]
+    return shuffled(draw, 5, [draw.randint(0, 2)] * len(tokens) + [1], bodies)
+
+
+large = {shape.__name__: shape for shape in (most_rules, one_limit, at_limits, many_rows)}
 shapes = {shape.__name__: shape for shape in (
     anything, way_out, layered, left_recursion, right_recursion, middle_recursion, own_rule, mutual_recursion,
     unit_cycles, empty_chains, no_sentence, unreached, free_tokens, equal_choices, dear, dear_flat, long_sentences,

@@ -17,6 +17,8 @@ CASES = {
     "again": "tokens eof|rules start A B|start: A|A: B*40|B:",
     "sixty": "tokens eof|rules start " + " ".join(f"r{k}" for k in range(1, 61)) + "|start: r1"
     + "".join(f"|r{k}: r{k + 1}*2" for k in range(1, 60)) + "|r60:",
+    "round": "tokens a eof|rules start A|start: A|A: a|A: A",
+    "many": "tokens a eof|rules start A B|start: A|A: B B" + "|B: a" * 256,
     "513 rules": "tokens a eof|rules start " + " ".join(f"r{k}" for k in range(1, 513)) + "|start: r1"
     + "".join(f"|r{k}: a" for k in range(1, 513)),
 }
@@ -66,6 +68,17 @@ SAID = [
     ("again", "costs", returned(0, 0, 0), "costs 1", returned(0)),
     ("again", "sentences 1", LATE, "sentences 1", returned()),
     ("sixty", "sentences 1", LATE, "sentences 1", returned()),
+    ("g1", "lists 0", returned([0]), "lists 0", returned([0])),
+    ("g3", "lists 1", LATE, "counts 1", refused(14)),
+    ("g6", "lists 1", returned([1]), "counts 1", returned(1)),
+    ("order", "lists 1", returned([1, 0]), "lists 1", returned([1, 0])),
+    ("round", "sentences 1", LATE, "sentences 1", returned(0)),
+    ("round", "lists 1", LATE, "lists 1", refused(14)),
+    ("many", "lists 1", returned(*[[0, 0]] * 65536), "lists 1", refused(16)),
+    ("many", "lists 2", returned(*[[0]] * 256), "counts 2", returned(256)),
+    ("own sum", "lists 1", {"panicked": "attempt to add with overflow"}, "lists 1", returned([])),
+    ("again", "lists 1", returned([]), "lists 1", returned([])),
+    ("sixty", "lists 1", LATE, "lists 1", returned([])),
     ("513 rules", "sentences 512", returned(0), "refused", 1),
 ]
 

@@ -1,7 +1,8 @@
 #!/usr/bin/env python3
 """Document 01 once more, plain and slow: sets, recursion and whole numbers of any size; of document 02 the versions of
-the block file, several exports in one grammar, and that in mode 2 of FOLLOW only productions of reached rules count. It
-is written from those texts, with the readings of their open points in docs/DECISIONS.md, and from no crate.
+the block file, several exports in one grammar, that in mode 2 of FOLLOW only productions of reached rules count, and
+all cheapest sentences. It is written from those texts, with the readings of their open points in docs/DECISIONS.md, and
+from no crate.
 
     tools/plain.py report FILE         the report of a block file; '-' stands for standard input
 
@@ -10,6 +11,8 @@ start with is found over a graph, and the cheapest costs are settled from the ch
 visits are there beside them. A refusal is the exception Refused with its number. Tables are lists and sets of Python:
 their lengths cannot be wrong, so nothing gives 7.
 """
+import functools
+import itertools
 import sys
 from typing import NamedTuple
 
@@ -238,6 +241,11 @@ def costs(g):
     return [min(known.get(r, MOST + 1), MOST + 1) for r in range(g.rules)]
 
 
+def known_costs(g):
+    """The cost of each rule that has one, at most 65535."""
+    return {r: cost for r, cost in enumerate(costs(g)) if cost <= MOST}
+
+
 def sentence_cost(g, r):
     """The cost query."""
     check(g)
@@ -248,6 +256,15 @@ def sentence_cost(g, r):
     if cost > MOST:
         raise Refused(13)
     return cost
+
+
+def cheapest(g, known):
+    """The productions whose cost equals the rule's, in rising number, of each rule whose cost is known."""
+    found = {}
+    for r, body in g.productions():
+        if r in known and price(g, body, known) == known[r]:
+            found.setdefault(r, []).append(body)
+    return found
 
 
 def cheapest_first(g, known):
@@ -261,7 +278,7 @@ def cheapest_first(g, known):
 
 def first_choices(g):
     """The first choice of each rule that has a cost."""
-    return cheapest_first(g, {r: cost for r, cost in enumerate(costs(g)) if cost <= MOST})
+    return cheapest_first(g, known_costs(g))
 
 
 def grounded(choice):
@@ -305,6 +322,112 @@ def sentence(g, r, room=MOST):
     if known[r] > min(MOST, room):
         raise Refused(15)
     return expanded(r, choice, known)
+
+
+def circular(choices):
+    """The rules that, through these productions, reach or are a rule that so reaches itself."""
+    links = {r: {rule for body in bodies for rule in rules_of(body)} for r, bodies in choices.items()}
+    below = {r: linked(r, links) for r in links}
+    around = {r for r in links if r in below[r]}
+    return {r for r in links if r in around or below[r] & around}
+
+
+def product(numbers):
+    """Of numbers from 1 on; 65536 for more than 65535."""
+    return functools.reduce(lambda held, number: min(held * number, MOST + 1), numbers, 1)
+
+
+def list_counts(choices):
+    """How many derivations through these productions each rule has that is not circular; 65536 for more than 65535."""
+    known, without = {}, circular(choices)
+
+    def count(r):
+        if r not in known:
+            known[r] = min(sum(product(map(count, rules_of(body))) for body in choices[r]), MOST + 1)
+        return known[r]
+
+    return {r: count(r) for r in choices if r not in without}
+
+
+def sentence_lists(choices, rules):
+    """The whole lists of these rules, which are not circular: productions rising, and within one the last place turning
+    fastest."""
+    known = {}
+
+    def rows(r):
+        if r not in known:
+            known[r] = [sum(parts, []) for body in choices[r] for parts in itertools.product(*map(places, body))]
+        return known[r]
+
+    def places(s):
+        return rows(s - RULE) if s >= RULE else [[s]]
+
+    return {r: rows(r) for r in rules}
+
+
+class Numbered:
+    """Row k of a rule's list of at most 65535, without the rows before it: the production by the counts, the places by
+    division."""
+
+    def __init__(self, choices):
+        self.choices, self.counts = choices, list_counts(choices)
+        self.known = {}
+
+    def parts(self, r, k):
+        """The symbols of the production that row k goes through, each with the number of its own row, 0 for a token."""
+        for body in self.choices[r]:
+            counts = [self.counts[s - RULE] if s >= RULE else 1 for s in body]
+            if k < product(counts):
+                break
+            k -= product(counts)
+        numbers = []
+        for count in reversed(counts):
+            numbers.append(k % count)
+            k //= count
+        return list(zip(body, reversed(numbers)))
+
+    def length(self, r, k):
+        if (r, k) not in self.known:
+            self.known[r, k] = sum(self.length(s - RULE, n) if s >= RULE else 1 for s, n in self.parts(r, k))
+        return self.known[r, k]
+
+    def row(self, r, k):
+        if self.length(r, k) == 0:
+            return []
+        return [t for s, n in self.parts(r, k) for t in (self.row(s - RULE, n) if s >= RULE else [s])]
+
+
+def counts(g):
+    """The count entry of each rule: 65536 for more than 65535, 65537 if circular or without cost."""
+    check(g)
+    known = list_counts(cheapest(g, known_costs(g)))
+    return [known.get(r, MOST + 2) for r in range(g.rules)]
+
+
+def numbered(g, r):
+    """The rule's list by numbers; refusals 12, 13, 14, and 16 where it has more than 65535 rows."""
+    sentence_cost(g, r)
+    found = Numbered(cheapest(g, known_costs(g)))
+    if r not in found.counts:
+        raise Refused(14)
+    if found.counts[r] > MOST:
+        raise Refused(16)
+    return found
+
+
+def sentence_count(g, r):
+    """How many cheapest sentences a rule has, one for each derivation through cheapest productions."""
+    return numbered(g, r).counts[r]
+
+
+def sentence_at(g, r, k, room=MOST):
+    """The tokens of a rule's cheapest sentence number k, from 0, for an output of that room."""
+    found = numbered(g, r)
+    if k >= found.counts[r]:
+        raise Refused(16)
+    if found.length(r, k) > min(MOST, room):
+        raise Refused(15)
+    return found.row(r, k)
 
 
 def cleared(g):

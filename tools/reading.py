@@ -1,5 +1,6 @@
 """What document 01 says of the costs and sentences of a grammar, and what the loops of the Rust make of them: where
-they do not return, where they panic, and what they write; and what is left of the Rust's FOLLOW where only productions
+they do not return, where they panic, and what they write; what document 02 says of lists of sentences, and how much
+work they are for the Rust; and what is left of the Rust's FOLLOW where only productions
 of reached rules count. All is worked out from the grammar alone."""
 import collections
 import functools
@@ -8,13 +9,16 @@ import plain
 from named import refused, returned
 from plain import MOST, RULE
 
+ROWS, TOKENS = 300, 10_000  # a list of more is not asked for
+STEPS = 100_000  # so many steps of min_sentence and of min_sentences fit well into the oracle's time
+
 
 def circle(links):
     return any(r in plain.linked(r, links) for r in links)
 
 
 class Reading:
-    """What document 01 says of costs and sentences of one grammar, and what the Rust's loops make of them."""
+    """What the documents say of costs, sentences and lists of one grammar, and what the Rust's loops make of them."""
 
     def __init__(self, g):
         self.g = g
@@ -26,6 +30,9 @@ class Reading:
         self.choice = plain.cheapest_first(g, fit)
         self.lengths = plain.sentence_lengths(self.choice)
         self.taken, self.written = {}, {}
+        self.choices = plain.cheapest(g, fit)
+        self.counts = plain.list_counts(self.choices)
+        self.longest, self.made = {}, {}
 
     @functools.cached_property
     def counted_follow(self):
@@ -45,6 +52,50 @@ class Reading:
         if self.lengths[r] > MOST:
             return refused(15)
         return returned(*plain.expanded(r, self.choice, self.lengths))
+
+    def count(self, r):
+        """How many cheapest sentences a rule has."""
+        if r not in self.choices:
+            return self.cost(r)
+        if r not in self.counts:
+            return refused(14)
+        return returned(self.counts[r]) if self.counts[r] <= MOST else refused(16)
+
+    def list(self, r):
+        """All of them."""
+        if "refused" in self.count(r):
+            return self.count(r)
+        return returned(*plain.sentence_lists(self.choices, [r])[r])
+
+    def longest_row(self, r):
+        """The length of the longest, of a rule with a list."""
+        if r not in self.longest:
+            rows = [sum(self.longest_row(s - RULE) if s >= RULE else 1 for s in body) for body in self.choices[r]]
+            self.longest[r] = max(rows)
+        return self.longest[r]
+
+    def making(self, r):
+        """The symbols and rows that min_sentences looks at and makes: the list of a rule again at each place."""
+        if r not in self.made:
+            places = sum(self.making(rule) for body in self.choices[r] for rule in plain.rules_of(body))
+            longest = max(len(body) for body in self.choices[r]) + self.longest_row(r)
+            self.made[r] = sum(len(body) for body in self.bodies[r]) + places + self.counts[r] * longest
+        return self.made[r]
+
+    def made_again(self, r):
+        """Whether a rule has a list whose making takes the Rust long."""
+        return r in self.counts and self.making(r) > STEPS
+
+    def listed(self):
+        """The rules whose lists are asked for, of ours and of the Rust: short ones that the Rust makes in time; as many
+        as have some rows together."""
+        found, rows = [], 0
+        for r, count in self.counts.items():
+            short = count <= ROWS and count * self.longest_row(r) <= TOKENS and not self.made_again(r)
+            if short and rows + count <= 2 * ROWS:
+                found.append(r)
+                rows += count
+        return found
 
     def costless(self, s, rules):
         return s - RULE in rules if s >= RULE else self.g.costs[s] == 0
@@ -98,6 +149,11 @@ class Reading:
     def used(self, r):
         """The rules whose first choice is taken."""
         return {r} | plain.linked(r, {rule: plain.rules_of(body) for rule, body in self.choice.items()})
+
+    def used_by_list(self, r):
+        """The rules whose lists are made for the list of a rule."""
+        links = {rule: {at for body in bodies for at in plain.rules_of(body)} for rule, bodies in self.choices.items()}
+        return {r} | plain.linked(r, links)
 
     def place(self, r):
         """Whether a production used has a rule followed by a token or by a rule whose sentence is not empty."""

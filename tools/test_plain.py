@@ -73,6 +73,22 @@ def ends(choice, r, depth):
     return all(s < RULE or depth > 0 and ends(choice, s - RULE, depth - 1) for s in choice[r])
 
 
+def leftmost(g, cost, form, depth):
+    """The sentences of all leftmost derivations from a form through cheapest productions, in the order in which the
+    lowest production at the leftmost place comes first; None for each that is not ended at that depth."""
+    at = next((k for k, s in enumerate(form) if s >= RULE), None)
+    if at is None or depth == 0:
+        yield form if at is None else None
+        return
+    for r, body in g.productions():
+        if r == form[at] - RULE and cost[r] <= 65535 and total(g, cost, body) == cost[r]:
+            yield from leftmost(g, cost, form[:at] + body + form[at + 1 :], depth - 1)
+
+
+def total(g, cost, body):
+    return sum(cost[s - RULE] if s >= RULE else g.costs[s] for s in body)
+
+
 def closed_follow(g, mode):
     """The least table closed under FOLLOW's rules, by rounds, in document 01's words; in mode 2 over the productions of
     rules that are rule 0 or have a path from it, in document 02's."""
@@ -318,6 +334,91 @@ class Plain(unittest.TestCase):
                         self.assertEqual(sum(g.costs[t] for t in said), plain.costs(g)[r])
                     if number != 12:
                         self.assertEqual(number == 0, ends(choice, r, g.rules))
+
+    def list_is(self, g, r, rows):
+        """The rule has these cheapest sentences, in this order."""
+        self.assertEqual(plain.sentence_count(g, r), len(rows))
+        self.assertEqual([plain.sentence_at(g, r, k) for k in range(len(rows))], rows)
+        self.assertEqual(refused(plain.sentence_at, g, r, len(rows)), 16)
+        self.assertEqual(refused(plain.sentence_at, g, r, 2**32 - 1), 16)
+
+    def test_lists_of_document_01s_grammars(self):
+        for r, rows in enumerate(([[0]], [[0]], [[]], [[]])):
+            self.list_is(example("g1"), r, rows)
+        self.list_is(example("g2"), 1, [[0, 2]])
+        self.list_is(example("g5"), 1, [[0] * 257])
+        self.list_is(example("g5-either"), 1, [[1]])
+        self.list_is(example("g6"), 1, [[1]])
+        self.assertEqual([refused(plain.sentence_count, example("g3"), r) for r in (0, 1, 2)], [14, 14, 9])
+        self.assertEqual(refused(plain.sentence_count, example("g4"), 1), 12)
+        self.assertEqual(refused(plain.sentence_at, example("g5-dear"), 1, 0), 13)
+        self.assertEqual(plain.counts(example("g3")), [65537, 65537])
+
+    def test_order_of_a_list(self):
+        # A: X Y; X: a; X: b; Y: a; Y: c; A: b b; all cost 1: the last place turns fastest, then the next production
+        A, X, Y = RULE + 1, RULE + 2, RULE + 3
+        g = Grammar(4, [0, 1, 2, 2, 3, 3, 1], [0, 1, 3, 4, 5, 6, 7, 9], [A, X, Y, 0, 1, 0, 2, 1, 1], [1] * 4)
+        self.list_is(g, 1, [[0, 0], [0, 2], [1, 0], [1, 2], [1, 1]])
+        self.assertEqual(plain.counts(g), [5, 5, 2, 2])
+        # A: a; A: X; X: a: a sentence with two derivations comes twice
+        g = Grammar(3, [0, 1, 1, 2], [0, 1, 2, 3, 4], [A, 0, X, 0], [1, 1])
+        self.list_is(g, 1, [[0], [0]])
+
+    def test_lists_without_end(self):
+        A, B = RULE + 1, RULE + 2
+        # A: a; A: A has a sentence, by its first choice, and no list
+        g = Grammar(2, [0, 1, 1], [0, 1, 2, 3], [A, 0, A], [1, 1])
+        self.assertEqual((plain.sentence(g, 1), refused(plain.sentence_count, g, 1)), ([0], 14))
+        # B comes to A by its second cheapest production
+        g = Grammar(3, [0, 2, 2, 1, 1], [0, 1, 2, 3, 4, 5], [B, 0, A, 0, A], [1, 1])
+        self.assertEqual((plain.sentence(g, 2), refused(plain.sentence_at, g, 2, 0)), ([0], 14))
+        self.assertEqual(plain.counts(g), [65537] * 3)
+        # A: a; A: A a goes round at a cost, so not through cheapest productions
+        self.list_is(Grammar(2, [0, 1, 1], [0, 1, 2, 4], [A, 0, A, 0], [1, 1]), 1, [[0]])
+
+    def test_counts_around_65535(self):
+        # A: B C, with 257 and 255 or 256 productions of nothing
+        for more, count in (255, 65535), (256, 65536):
+            owners = [0, 1] + [2] * 257 + [3] * more
+            g = Grammar(4, owners, [0, 1] + [3] * (257 + more + 1), [RULE + 1, RULE + 2, RULE + 3], [1])
+            self.assertEqual(plain.counts(g), [count, count, 257, more])
+            self.assertEqual(refused(plain.sentence_count, g, 1), 0 if count == 65535 else 16)
+        # sixty rules, each twice the next, and the last is nothing by two productions: 2, 4, 16, 256, and then too many
+        bodies = [[RULE + 1]] + [[RULE + r + 1] * 2 for r in range(1, 60)] + [[], []]
+        starts = [sum(map(len, bodies[:p])) for p in range(63)]
+        many = Grammar(61, [*range(61), 60], starts, sum(bodies, []), [1])
+        self.assertEqual(plain.counts(many), [65536] * 57 + [256, 16, 4, 2])
+
+    def test_room_for_a_row(self):
+        # A: f f; A: nothing, and f is free: rows of other lengths
+        g = Grammar(2, [0, 1, 1], [0, 1, 3, 3], [RULE + 1, 0, 0], [0, 1])
+        self.list_is(g, 1, [[0, 0], []])
+        self.assertEqual([refused(plain.sentence_at, g, 1, 0, room) for room in (0, 1, 2)], [15, 15, 0])
+        self.assertEqual([refused(plain.sentence_at, g, 1, 1, room) for room in (0, 1, 2)], [0, 0, 0])
+        self.assertEqual(refused(plain.sentence_at, g, 1, 2, 0), 16)
+
+    def test_random_lists_against_leftmost_derivations(self):
+        dice, seen = random.Random(4), set()
+        for k in range(300):
+            g = random_grammar(dice)
+            cost, choices = plain.costs(g), plain.cheapest(g, plain.known_costs(g))
+            for r in range(g.rules):
+                with self.subTest(f"{k}: {g}, rule {r}"):
+                    number = refused(plain.sentence_count, g, r)
+                    seen.add(number)
+                    self.assertIn(number, (0, 12, 14))
+                    if number == 12:
+                        continue
+                    # R levels of at most two rules each: a list that ends has no longer derivation
+                    rows = itertools.islice(leftmost(g, cost, [RULE + r], 2**g.rules), 3000)
+                    rows = list(rows) if number == 0 else next((row for row in rows if row is None), 0)
+                    if number == 14:
+                        self.assertIsNone(rows)
+                        continue
+                    self.list_is(g, r, rows)
+                    self.assertEqual(plain.sentence_lists(choices, [r]), {r: rows})
+                    self.assertEqual(plain.sentence(g, r), rows[0])
+        self.assertEqual(seen, {0, 12, 14})
 
 
 if __name__ == "__main__":

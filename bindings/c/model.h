@@ -1,12 +1,12 @@
-/* Document 01 once more in C, with the file writer, the versions, the several exports and the reached rules of
- * document 02, plain and slow, to compare the library with. It is written from those texts, with the readings of their
- * open points in docs/DECISIONS.md, and from no crate. A call names an exported function and holds what it is lent;
- * `model` makes the call on those lists. */
+/* Document 01 once more in C, with the file writer, the versions, the several exports, the reached rules and the lists
+ * of cheapest sentences of document 02, plain and slow, to compare the library with. It is written from those texts,
+ * with the readings of their open points in docs/DECISIONS.md, and from no crate. A call names an exported function and
+ * holds what it is lent; `model` makes the call on those lists. */
 #include <stddef.h>
 #include <stdint.h>
 #include <string.h>
 
-enum { RULE = 32768, MOST = 65535, NONE = 65536, UNGROUNDED = 65537 };
+enum { RULE = 32768, MOST = 65535, NONE = 65536, UNGROUNDED = 65537, MANY = 65536, CIRCULAR = 65537 };
 enum { VERSION_2 = 32768 }; /* what a version 2 file has added to its R field */
 
 typedef struct {
@@ -37,19 +37,22 @@ typedef enum {
     FOLLOW_VISIT,
     FOLLOW_FILL,
     MIN_SENTENCE,
+    COUNT_MIN_SENTENCES,
+    MIN_SENTENCE_AT,
     WRITE_BLOCKS,
     OPS
 } op;
 
 /* The tables that a call is lent, in order: T a row of tokens a rule, E one row of rules, C a number a rule. */
 enum { TABLES = 4 };
-static const char *const tables_of[OPS] = {"",  "",  "T", "E",  "TE", "TE", "TE",   "",     "E",   "E", "E",
-                                           "C", "C", "C", "EC", "E",  "T",  "TTEE", "TTEE", "ECC", ""};
+static const char *const tables_of[OPS] = {"",  "",  "T", "E",  "TE", "TE", "TE",   "",     "E",   "E",    "E",   "C",
+                                           "C", "C", "EC", "E", "T",  "TTEE", "TTEE", "ECC", "ECCC", "ECCC", ""};
 
 typedef struct {
     op op;
     grammar g;
-    uint16_t rule, token, prod, mode, to, version; /* those that the call takes */
+    uint16_t rule, token, prod, mode, to, version; /* those that the call takes, and k */
+    uint32_t k;
     uint32_t *table[TABLES];
     size_t table_len[TABLES];
     uint16_t *out;
@@ -315,6 +318,107 @@ static result sentence(call *c) {
     return answered(lengths[c->rule] ? (uint32_t)expand(g, c->rule, cost, lengths, c->out, 0) : 0);
 }
 
+/* Whether a production's cost is its owner's. */
+static int is_cheapest(const grammar *g, size_t p, const uint32_t *cost) {
+    return cost[g->owners[p]] <= MOST && price(g, p, cost) == cost[g->owners[p]];
+}
+
+static uint32_t count_rule(const grammar *g, size_t rule, const uint32_t *cost, uint32_t *known, uint8_t *visiting);
+
+/* How many derivations a production has: the product of those of its rules, or MANY, or CIRCULAR. */
+static uint32_t count_prod(const grammar *g, size_t p, const uint32_t *cost, uint32_t *known, uint8_t *visiting) {
+    uint64_t product = 1;
+    int circular = 0;
+    for (size_t i = g->starts[p]; i < g->starts[p + 1]; i++) {
+        if (g->symbols[i] < RULE) continue;
+        uint32_t one = count_rule(g, g->symbols[i] - RULE, cost, known, visiting);
+        circular |= one == CIRCULAR;
+        product = one * product > MOST ? MANY : one * product;
+    }
+    return circular ? CIRCULAR : (uint32_t)product;
+}
+
+/* The sum over the rule's cheapest productions. A rule that is come to again while it is visited reaches itself; so a
+ * rule that comes to one under way is circular, as is each under way above it. What is known is kept. */
+static uint32_t count_rule(const grammar *g, size_t rule, const uint32_t *cost, uint32_t *known, uint8_t *visiting) {
+    uint64_t sum = 0;
+    int circular = 0;
+    if (visiting[rule]) return CIRCULAR;
+    if (known[rule]) return known[rule];
+    visiting[rule] = 1;
+    for (size_t p = 0; p < g->prods; p++) {
+        if (g->owners[p] != rule || !is_cheapest(g, p, cost)) continue;
+        uint32_t one = count_prod(g, p, cost, known, visiting);
+        circular |= one == CIRCULAR;
+        sum += one;
+    }
+    visiting[rule] = 0;
+    return known[rule] = circular ? CIRCULAR : sum > MOST ? MANY : (uint32_t)sum;
+}
+
+static void fill_counts(const grammar *g, const uint32_t *cost, uint32_t *counts) {
+    uint8_t visiting[512] = {0};
+    clear(counts, g->rules, 0);
+    for (size_t r = 0; r < g->rules; r++)
+        counts[r] = cost[r] > MOST ? CIRCULAR : count_rule(g, r, cost, counts, visiting);
+}
+
+/* How many rows a production of a rule with a list has. */
+static uint32_t rows_of(const grammar *g, size_t p, const uint32_t *counts) {
+    uint32_t product = 1;
+    for (size_t i = g->starts[p]; i < g->starts[p + 1]; i++)
+        if (g->symbols[i] >= RULE) product *= counts[g->symbols[i] - RULE];
+    return product;
+}
+
+/* The token count of number k of a rule's list, 65536 if above 65535; it is written from `at` on unless `out` is null.
+ * The production is found by counting the rows before it, the number of each place by division by the rows of the
+ * places behind it. Number 0 of a rule is its sentence by first choices. */
+static uint32_t list_row(const grammar *g, size_t rule, uint32_t k, uint32_t *const *table, uint16_t *out, size_t at) {
+    const uint32_t *cost = table[1], *lengths = table[2], *counts = table[3];
+    uint32_t total = 0;
+    size_t p = 0;
+    for (;; p++) {
+        if (g->owners[p] != rule || !is_cheapest(g, p, cost)) continue;
+        if (k < rows_of(g, p, counts)) break;
+        k -= rows_of(g, p, counts);
+    }
+    uint32_t behind = rows_of(g, p, counts);
+    for (size_t i = g->starts[p]; i < g->starts[p + 1]; i++) {
+        uint16_t s = g->symbols[i];
+        uint32_t one = 1, number = 0;
+        if (s < RULE) {
+            if (out) out[at + total] = s;
+        } else {
+            behind /= counts[s - RULE];
+            number = k / behind;
+            k %= behind;
+            one = number ? list_row(g, s - RULE, number, table, out, at + total) : lengths[s - RULE];
+            if (out && !number && one) expand(g, s - RULE, cost, lengths, out, at + total);
+        }
+        total = total + one > MOST ? NONE : total + one;
+    }
+    return total;
+}
+
+/* The two calls on all cheapest sentences; the first writes none. */
+static result listing(call *c, int writes) {
+    const grammar *g = &c->g;
+    uint32_t *productive = c->table[0], *cost = c->table[1], *lengths = c->table[2], *counts = c->table[3];
+    fill_productive(g, productive);
+    fill_cost(g, cost);
+    fill_lengths(g, cost, lengths);
+    fill_counts(g, cost, counts);
+    if (!marked(productive, c->rule)) return refused(12);
+    if (cost[c->rule] > MOST) return refused(13);
+    if (counts[c->rule] == CIRCULAR) return refused(14);
+    if (counts[c->rule] == MANY || (writes && c->k >= counts[c->rule])) return refused(16);
+    if (!writes) return answered(counts[c->rule]);
+    uint32_t length = list_row(g, c->rule, c->k, c->table, NULL, 0);
+    if (length > MOST || length > c->out_len) return refused(15);
+    return answered(list_row(g, c->rule, c->k, c->table, c->out, 0));
+}
+
 enum { BLOCK = 512, PAYLOAD = 508 };
 
 static uint32_t pair(const uint8_t *low) { return low[0] + 256u * low[1]; }
@@ -389,7 +493,7 @@ static uint32_t refusal_of(const call *c) {
     const grammar *g = &c->g;
     uint32_t number = check_of(g);
     int rule = c->op == MARK || c->op == RULE_MARK || c->op == HAS_PATH || c->op == MIN_SENTENCE_COST ||
-               c->op == MIN_SENTENCE;
+               c->op == MIN_SENTENCE || c->op == COUNT_MIN_SENTENCES || c->op == MIN_SENTENCE_AT;
     int prod = c->op == PRODUCTION || c->op == FIRST_VISIT || c->op == PRODUCTIVE_VISIT || c->op == COST_VISIT ||
                c->op == FOLLOW_VISIT;
     if (c->op == WRITE_BLOCKS && c->version != 1 && c->version != 2) return 26;
@@ -465,6 +569,10 @@ static result model(call *c) {
         return r;
     case MIN_SENTENCE:
         return sentence(c);
+    case COUNT_MIN_SENTENCES:
+        return listing(c, 0);
+    case MIN_SENTENCE_AT:
+        return listing(c, 1);
     case WRITE_BLOCKS:
         return write_model(c);
     case OPS:

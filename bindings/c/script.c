@@ -157,7 +157,7 @@ static uint32_t item(int list, size_t i) {
 }
 
 /* What a step has in its brackets. */
-static uint16_t given[MOST];
+static uint32_t given[MOST];
 static size_t given_len;
 
 /* Numbers and refusals are said in runs, 7x4 for 7 7 7 7: a run is said when it ends. Refusals stand above all
@@ -194,17 +194,18 @@ static void say_stretch(boltmarrow_stretch s) {
 
 #define SAY(answer) _Generic((answer), boltmarrow_answer: say_answer, boltmarrow_stretch: say_stretch)(answer)
 
-/* The calls on a grammar, a line each: ONE has so many numbers in its brackets, and EACH is made for every number
- * behind the first so many. */
+/* The calls on a grammar, a line each: ONE has so many numbers in its brackets, WIDE too, and the last of these has 32
+ * bits; EACH is made for every number behind the first so many. */
 #define LIST(type, list) (type *)(void *)lent[list].at, lent[list].len
 #define G                                                                                                              \
     rules, LIST(const uint16_t, OWNERS), LIST(const uint16_t, STARTS), LIST(const uint16_t, SYMBOLS),                  \
         LIST(const uint8_t, COSTS)
 #define T(list) LIST(uint32_t, list)
-#define N(i) given[i]
-#define RULE(i) ((boltmarrow_ridx){given[i]})
-#define TOKEN(i) ((boltmarrow_tidx){given[i]})
-#define PROD(i) ((boltmarrow_pidx){given[i]})
+#define N(i) (uint16_t)given[i]
+#define K(i) given[i]
+#define RULE(i) ((boltmarrow_ridx){(uint16_t)given[i]})
+#define TOKEN(i) ((boltmarrow_tidx){(uint16_t)given[i]})
+#define PROD(i) ((boltmarrow_pidx){(uint16_t)given[i]})
 #define CALLS                                                                                                          \
     ONE(check, 0, G)                                                                                                   \
     ONE(production, 1, G, PROD(0))                                                                                     \
@@ -225,7 +226,9 @@ static void say_stretch(boltmarrow_stretch s) {
     ONE(follow_clear, 0, G, T(A))                                                                                      \
     EACH(follow_visit, 1, G, N(0), PROD(i), T(A), T(B), T(C), T(D))                                                    \
     ONE(follow_fill, 1, G, N(0), T(A), T(B), T(C), T(D))                                                               \
-    ONE(min_sentence, 1, G, RULE(0), T(A), T(B), T(C), LIST(uint16_t, OUT))
+    ONE(min_sentence, 1, G, RULE(0), T(A), T(B), T(C), LIST(uint16_t, OUT))                                            \
+    ONE(count_min_sentences, 1, G, RULE(0), T(A), T(B), T(C), T(D))                                                    \
+    WIDE(min_sentence_at, 2, G, RULE(0), K(1), T(A), T(B), T(C), T(D), LIST(uint16_t, OUT))
 
 #define ONE(name, numbers, ...)                                                                                        \
     static void name(void) { SAY(boltmarrow_##name(__VA_ARGS__)); }
@@ -233,8 +236,10 @@ static void say_stretch(boltmarrow_stretch s) {
     static void name(void) {                                                                                           \
         for (size_t i = before; i < given_len; i++) SAY(boltmarrow_##name(__VA_ARGS__));                               \
     }
+#define WIDE ONE
 CALLS
 #undef ONE
+#undef WIDE
 #undef EACH
 
 static void show(void) {
@@ -390,7 +395,7 @@ static void say_checks(const uint8_t *bytes, size_t blocks) {
  * held to what the step `file` makes, of version 2 with the R field changed; with a refusal there is none. */
 static void write_blocks(void) {
     static uint8_t written[MOST];
-    uint16_t version = given[1];
+    uint16_t version = (uint16_t)given[1];
     lend_same(BYTES, given[0], old(BYTES));
     boltmarrow_answer a = boltmarrow_write_blocks(G, version, LIST(uint8_t, BYTES));
     size_t room = lent[BYTES].len, len = a.refusal ? 0 : a.value;
@@ -417,22 +422,25 @@ static void write_blocks(void) {
     file_made = !a.refusal;
 }
 
-/* Every step: its name, how many numbers it has in its brackets, at least and at most, and whether it has an answer. */
+/* Every step: its name, how many numbers it has in its brackets, at least and at most, whether it has an answer, and the
+ * place of the number that may have 32 bits, 0 for none. */
 static const struct step {
     const char *name;
     size_t least, most;
     int answers;
     void (*make)(void);
+    size_t wide;
 } steps[] = {
-#define ONE(name, numbers, ...) {#name, numbers, numbers, 1, name},
-#define EACH(name, before, ...) {#name, before + 1, MOST, 1, name},
+#define ONE(name, numbers, ...) {#name, numbers, numbers, 1, name, 0},
+#define WIDE(name, numbers, ...) {#name, numbers, numbers, 1, name, numbers},
+#define EACH(name, before, ...) {#name, before + 1, MOST, 1, name, 0},
     CALLS
-    {"read_blocks", 4, 4, 1, read_blocks},
-    {"write_blocks", 2, 2, 1, write_blocks},
-    {"file", 1, MOST, 0, file},
-    {"show", 0, 0, 1, show},
-    {"at", 1, 1, 1, at},
-    {"count", 1, 1, 1, count_of},
+    {"read_blocks", 4, 4, 1, read_blocks, 0},
+    {"write_blocks", 2, 2, 1, write_blocks, 0},
+    {"file", 1, MOST, 0, file, 0},
+    {"show", 0, 0, 1, show, 0},
+    {"at", 1, 1, 1, at, 0},
+    {"count", 1, 1, 1, count_of, 0},
 };
 
 /* The step that the line names; what stands in its brackets comes next. */
@@ -446,17 +454,20 @@ static const struct step *read_name(void) {
     fail("there is no such call", line);
 }
 
-static void read_given(void) {
-    read_numbers(UINT16_MAX);
+static void read_given(const struct step *step) {
+    read_numbers(UINT32_MAX);
     need(')');
     need(0);
-    for (size_t i = 0; i < count; i++) given[i] = (uint16_t)numbers[i];
+    for (size_t i = 0; i < count; i++) {
+        if (numbers[i] > UINT16_MAX && i + 1 != step->wide) fail("a number is too high", line);
+        given[i] = numbers[i];
+    }
     given_len = count;
 }
 
 static void make_step(void) {
     const struct step *step = read_name();
-    read_given();
+    read_given(step);
     if (given_len < step->least || given_len > step->most) fail("it takes other than so many numbers", line);
     if (step->answers) printf("=");
     step->make();

@@ -75,7 +75,7 @@ static const char *const names[OPS] = {
     "first_visit",  "first_fill",       "has_path",         "productive_clear", "productive_visit",
     "productive_fill", "cost_clear",    "cost_visit",       "cost_fill",       "min_sentence_cost",
     "reached_fill", "follow_clear",     "follow_visit",     "follow_fill",     "min_sentence",
-    "write_blocks"};
+    "count_min_sentences", "min_sentence_at", "write_blocks"};
 
 static result pack(boltmarrow_answer a) {
     result r = {a.refusal, {a.value}};
@@ -100,7 +100,7 @@ static copies lend_all(const call *c) {
     l.owners = lend(0, g->owners, g->prods, 2), l.starts = lend(1, g->starts, g->starts_len, 2);
     l.symbols = lend(2, g->symbols, g->symbols_len, 2), l.costs = lend(3, g->costs, g->tokens, 1);
     for (int i = 0; i < (int)strlen(tables_of[c->op]); i++) l.table[i] = lend(4 + i, c->table[i], c->table_len[i], 4);
-    if (c->op == MIN_SENTENCE) l.out = lend(LENT, c->out, c->out_len, 2);
+    if (c->op == MIN_SENTENCE || c->op == MIN_SENTENCE_AT) l.out = lend(LENT, c->out, c->out_len, 2);
     if (c->op == WRITE_BLOCKS) l.bytes = lend(LENT, c->bytes, c->bytes_len, 1);
     return l;
 }
@@ -156,6 +156,10 @@ static result library(const call *c, copies l) {
         return pack(boltmarrow_follow_fill(G, c->mode, T(0), T(1), T(2), T(3)));
     case MIN_SENTENCE:
         return pack(boltmarrow_min_sentence(G, rule, T(0), T(1), T(2), l.out, c->out_len));
+    case COUNT_MIN_SENTENCES:
+        return pack(boltmarrow_count_min_sentences(G, rule, T(0), T(1), T(2), T(3)));
+    case MIN_SENTENCE_AT:
+        return pack(boltmarrow_min_sentence_at(G, rule, c->k, T(0), T(1), T(2), T(3), l.out, c->out_len));
     case WRITE_BLOCKS:
         return pack(boltmarrow_write_blocks(G, c->version, l.bytes, c->bytes_len));
     case OPS:
@@ -183,9 +187,15 @@ WIDE(boltmarrow_answer, follow_visit, uint64_t, uint64_t, LIST(uint32_t), LIST(c
      LIST(const uint32_t));
 WIDE(boltmarrow_answer, follow_fill, uint64_t, LIST(uint32_t), LIST(uint32_t), LIST(uint32_t), LIST(uint32_t));
 WIDE(boltmarrow_answer, min_sentence, uint64_t, LIST(uint32_t), LIST(uint32_t), LIST(uint32_t), LIST(uint16_t));
+WIDE(boltmarrow_answer, count_min_sentences, uint64_t, LIST(uint32_t), LIST(uint32_t), LIST(uint32_t), LIST(uint32_t));
+WIDE(boltmarrow_answer, min_sentence_at, uint64_t, uint64_t, LIST(uint32_t), LIST(uint32_t), LIST(uint32_t),
+     LIST(uint32_t), LIST(uint16_t));
 WIDE(boltmarrow_answer, write_blocks, uint64_t, LIST(uint8_t));
 
 static uint64_t slot(uint16_t number) { return (uint64_t)next() << 32 | (uint64_t)(1 + below(65535)) << 16 | number; }
+
+/* The same for a number of 32 bits. */
+static uint64_t slot_32(uint32_t number) { return (uint64_t)(1 + below(65535)) << 32 | number; }
 
 static result wide(const call *c, copies l) {
     uint64_t rules = slot(c->g.rules), rule = slot(c->rule), to = slot(c->to), token = slot(c->token);
@@ -213,6 +223,10 @@ static result wide(const call *c, copies l) {
         return pack(wide_follow_fill(rules, LISTS, mode, T(0), T(1), T(2), T(3)));
     case MIN_SENTENCE:
         return pack(wide_min_sentence(rules, LISTS, rule, T(0), T(1), T(2), l.out, c->out_len));
+    case COUNT_MIN_SENTENCES:
+        return pack(wide_count_min_sentences(rules, LISTS, rule, T(0), T(1), T(2), T(3)));
+    case MIN_SENTENCE_AT:
+        return pack(wide_min_sentence_at(rules, LISTS, rule, slot_32(c->k), T(0), T(1), T(2), T(3), l.out, c->out_len));
     case WRITE_BLOCKS:
         return pack(wide_write_blocks(rules, LISTS, version, l.bytes, c->bytes_len));
     default:
@@ -238,7 +252,7 @@ static result run(call *c) {
     returned(what, 2, c->g.symbols);
     returned(what, 3, c->g.costs);
     for (int i = 0; i < (int)strlen(tables_of[c->op]); i++) returned(what, 4 + i, c->table[i]);
-    if (c->op == MIN_SENTENCE) returned(what, LENT, c->out);
+    if (c->op == MIN_SENTENCE || c->op == MIN_SENTENCE_AT) returned(what, LENT, c->out);
     if (c->op == WRITE_BLOCKS) returned(what, LENT, c->bytes);
     return got;
 }
@@ -297,7 +311,7 @@ enum { ROOM = 98 * BLOCK + 100 };
 /* A call on the grammar at hand, its tables of the right lengths and full of random words, version 1, and room for any
  * file. */
 static call make(op which) {
-    call c = {which, g, 0, 0, 0, 1, 0, 1, {words[0], words[1], words[2], words[3]}, {0}, output, 100, bytes, ROOM};
+    call c = {which, g, 0, 0, 0, 1, 0, 1, 0, {words[0], words[1], words[2], words[3]}, {0}, output, 100, bytes, ROOM};
     for (size_t i = 0; i < strlen(tables_of[which]); i++) {
         c.table_len[i] = length_of(tables_of[which][i], &g);
         for (size_t j = 0; j < c.table_len[i]; j++) words[i][j] = word();
@@ -317,7 +331,7 @@ static result fill(op which, uint16_t mode) {
 static uint32_t row(uint16_t rule) {
     uint32_t bits = 0;
     for (uint16_t t = 0; t < g.tokens; t++) {
-        call c = {MARK, g, rule, t, 0, 0, 0, 0, {words[0]}, {length_of('T', &g)}, NULL, 0, NULL, 0};
+        call c = {MARK, g, rule, t, 0, 0, 0, 0, 0, {words[0]}, {length_of('T', &g)}, NULL, 0, NULL, 0};
         bits |= run(&c).field[0] << t;
     }
     return bits;
@@ -326,7 +340,7 @@ static uint32_t row(uint16_t rule) {
 static uint32_t rule_row(int table) {
     uint32_t bits = 0;
     for (uint16_t r = 0; r < g.rules; r++) {
-        call c = {RULE_MARK, g, r, 0, 0, 0, 0, 0, {words[table]}, {length_of('E', &g)}, NULL, 0, NULL, 0};
+        call c = {RULE_MARK, g, r, 0, 0, 0, 0, 0, 0, {words[table]}, {length_of('E', &g)}, NULL, 0, NULL, 0};
         bits |= run(&c).field[0] << r;
     }
     return bits;
@@ -372,6 +386,36 @@ static void sentence_is(uint16_t rule, size_t room, uint32_t refusal, uint32_t l
     expect("sentence", r.field[0], length);
 }
 
+/* How many cheapest sentences a rule has, by the call and by its entry. */
+static void count_is(uint16_t rule, uint32_t refusal, uint32_t value, uint32_t entry) {
+    call c = make(COUNT_MIN_SENTENCES);
+    c.rule = rule;
+    result r = run(&c);
+    expect("count", r.refusal, refusal);
+    expect("count", r.field[0], value);
+    expect("count's entry", words[3][rule], entry);
+}
+
+static void row_refused(uint16_t rule, uint32_t k, size_t room, uint32_t refusal) {
+    call c = make(MIN_SENTENCE_AT);
+    c.rule = rule, c.k = k, c.out_len = room;
+    expect("row refused", run(&c).refusal, refusal);
+}
+
+/* Number k of a rule's list, in exact room. */
+static void row_is(uint16_t rule, uint32_t k, const uint16_t *tokens, size_t len) {
+    call c = make(MIN_SENTENCE_AT);
+    c.rule = rule, c.k = k, c.out_len = len;
+    result r = run(&c);
+    expect("row's refusal", r.refusal, 0);
+    expect("row's length", r.field[0], len);
+    for (size_t i = 0; i < len; i++) expect("row", output[i], tokens[i]);
+    if (len) row_refused(rule, k, len - 1, 15);
+}
+
+#define ROW_IS(rule, k, ...)                                                                                           \
+    row_is(rule, k, (const uint16_t[]){__VA_ARGS__}, sizeof((const uint16_t[]){__VA_ARGS__}) / 2)
+
 static void path_is(uint16_t from, uint16_t to, uint32_t yes) {
     call c = make(HAS_PATH);
     c.rule = from;
@@ -415,7 +459,7 @@ static void g1(void) {
     fill(FIRST_CLEAR, 0);
     for (int round = 0; round < 2; round++) {
         for (int i = 0; i < 6; i++) {
-            call v = {FIRST_VISIT, g, 0, 0, order[i], 0, 0, 0, {words[0], words[1]}, {4, 1}, NULL, 0, NULL, 0};
+            call v = {FIRST_VISIT, g, 0, 0, order[i], 0, 0, 0, 0, {words[0], words[1]}, {4, 1}, NULL, 0, NULL, 0};
             run(&v);
         }
         expect("G1 rounds", row(1), round ? 5 : 0);
@@ -610,6 +654,89 @@ static void lengths(void) {
     }
 }
 
+/* Lists of all cheapest sentences; tokens cost 1 where nothing is said. */
+static void lists_of_rules(void) {
+    begin_g1();
+    for (uint16_t r = 0; r < 4; r++) count_is(r, 0, 1, 1), row_refused(r, 1, 100, 16);
+    ROW_IS(0, 0, 0);
+    row_is(2, 0, NULL, 0);
+
+    /* A: X Y; A: b b; X: a; X: b; Y: a; Y: c: the last place turns fastest, then comes the next production */
+    begin(4, 4, 1);
+    PROD(0, R(1)), PROD(1, R(2), R(3)), PROD(2, 0), PROD(2, 1), PROD(3, 0), PROD(3, 2), PROD(1, 1, 1);
+    count_is(1, 0, 5, 5), count_is(0, 0, 5, 5), count_is(2, 0, 2, 2);
+    ROW_IS(1, 0, 0, 0), ROW_IS(1, 1, 0, 2), ROW_IS(1, 2, 1, 0), ROW_IS(1, 3, 1, 2), ROW_IS(0, 4, 1, 1);
+    row_refused(1, 5, 100, 16), row_refused(1, 65536, 100, 16), row_refused(1, 0xFFFFFFFF, 0, 16);
+
+    /* a sentence with two derivations: A: a; A: X; X: a */
+    begin(3, 2, 1), PROD(0, R(1)), PROD(1, 0), PROD(1, R(2)), PROD(2, 0);
+    count_is(1, 0, 2, 2), ROW_IS(1, 0, 0), ROW_IS(1, 1, 0);
+
+    /* A: a; A: A has a sentence and 14 here; so has B: a; B: A, by a cheapest production that is not its first choice */
+    begin(3, 2, 1), PROD(0, R(2)), PROD(1, 0), PROD(1, R(1)), PROD(2, 0), PROD(2, R(1));
+    for (uint16_t r = 0; r < 3; r++) {
+        sentence_is(r, 1, 0, 1);
+        count_is(r, 14, 0, CIRCULAR), row_refused(r, 0, 100, 14), row_refused(r, 9, 0, 14);
+    }
+    /* with B: A a in the place of B: A, which is dearer, B does not come to the circle */
+    begin(3, 2, 1), PROD(0, R(2)), PROD(1, 0), PROD(1, R(1)), PROD(2, 0), PROD(2, R(1), 0);
+    count_is(2, 0, 1, 1), count_is(1, 14, 0, CIRCULAR);
+
+    /* no sentence, and too dear */
+    begin(3, 2, 255), PROD(0, R(1)), PROD(1, R(1)), PROD(2, R(1));
+    count_is(2, 12, 0, CIRCULAR), row_refused(2, 0, 0, 12);
+    begin(2, 2, 255), PROD(0, R(1));
+    for (int i = 0; i < 258; i++) add(0);
+    end(1), count_is(1, 13, 0, CIRCULAR), row_refused(1, 0, 0, 13);
+}
+
+/* A: B C, of so many rows by productions of nothing, and one row of f more, f being free. */
+static void begin_product(int first, int second, int more) {
+    begin(4, 2, 0);
+    PROD(0, R(1)), PROD(1, R(2), R(3));
+    for (int i = 0; i < first; i++) prod(2, NULL, 0);
+    for (int i = 0; i < second; i++) prod(3, NULL, 0);
+    if (more) PROD(1, 0);
+}
+
+static void long_lists(void) {
+    begin_product(255, 257, 0);
+    count_is(1, 0, 65535, 65535), row_is(1, 65534, NULL, 0), row_refused(1, 65535, 0, 16);
+    begin_product(255, 257, 1);
+    count_is(1, 16, 0, MANY), count_is(2, 0, 255, 255), row_refused(1, 0, 100, 16);
+    begin_product(256, 256, 0), count_is(0, 16, 0, MANY), row_refused(0, 0, 0, 16);
+    begin_product(254, 258, 1), count_is(1, 0, 65533, 65533);
+    ROW_IS(1, 65532, 0), row_refused(1, 65532, 0, 15), row_refused(1, 65533, 0, 16), row_is(1, 65531, NULL, 0);
+
+    /* two rows below 511 levels: each rule is the next one, the last is a or b */
+    begin(512, 3, 1);
+    for (uint16_t r = 0; r < 511; r++) PROD(r, R(r + 1));
+    PROD(511, 0), PROD(511, 1);
+    count_is(0, 0, 2, 2), ROW_IS(0, 1, 1);
+
+    /* sixty doublings: of nothing 1 row, of two nothings 2, 4, 16, 256, 65536 and more */
+    for (int twice = 0; twice < 2; twice++) {
+        begin(61, 1, 0);
+        PROD(0, R(1));
+        for (uint16_t r = 1; r < 60; r++) PROD(r, R(r + 1), R(r + 1));
+        for (int i = 0; i <= twice; i++) prod(60, NULL, 0);
+        count_is(57, 0, twice ? 256 : 1, twice ? 256 : 1);
+        count_is(0, twice ? 16 : 0, !twice, twice ? MANY : 1);
+    }
+    /* of a free token: none, 131072 of it, which is too long, and 65535 */
+    begin(20, 2, 0);
+    PROD(0, R(1)), prod(1, NULL, 0), PROD(1, R(2));
+    for (uint16_t r = 2; r < 19; r++) PROD(r, R(r + 1), R(r + 1));
+    PROD(19, 0);
+    for (uint16_t r = 4; r < 20; r++) add((uint16_t)R(r));
+    end(1);
+    count_is(1, 0, 3, 3), row_is(1, 0, NULL, 0), row_refused(1, 1, 100000, 15), row_refused(2, 0, 100000, 15);
+    row_refused(1, 2, 65534, 15), row_refused(1, 3, 0, 16);
+    call c = make(MIN_SENTENCE_AT);
+    c.rule = 1, c.k = 2, c.out_len = 65535;
+    expect("row of 65535", run(&c).field[0], 65535);
+}
+
 /* Every call on the grammar at hand gives this refusal. */
 static void all_refuse(uint32_t number) {
     for (int o = 0; o < OPS; o++) {
@@ -679,7 +806,8 @@ static void list_lengths(void) {
 static void numbers(void) {
     for (int o = 0; o < OPS; o++)
         for (int far = 0; far < 2; far++) {
-            int rule = o == MARK || o == RULE_MARK || o == HAS_PATH || o == MIN_SENTENCE_COST || o == MIN_SENTENCE;
+            int rule = o == MARK || o == RULE_MARK || o == HAS_PATH || o == MIN_SENTENCE_COST || o == MIN_SENTENCE ||
+                       o == COUNT_MIN_SENTENCES || o == MIN_SENTENCE_AT;
             int visit = o == FIRST_VISIT || o == PRODUCTIVE_VISIT || o == COST_VISIT || o == FOLLOW_VISIT;
             call c;
             begin_g1();
@@ -942,14 +1070,16 @@ static void writer_versions(void) {
     reads_back(2);
 }
 
-/* A well-formed grammar, small or with rows of several words; in some rule 0 owns several productions. In a layered one
- * a rule holds only the next three rules, so that sentences grow long and dear. */
+/* A well-formed grammar, small or with rows of several words; in some rule 0 owns several productions, in some all
+ * tokens cost the same, so that many productions are cheapest. In a layered one a rule holds only the next three rules,
+ * so that sentences grow long and dear. */
 static void random_grammar(void) {
     uint16_t rules = (uint16_t)(2 + below(below(4) ? 7 : 69));
     size_t tokens = 1 + below(below(4) ? 6 : 70), extra = below(rules + 4);
     int layered = below(3) == 0;
     begin(rules, tokens, 0);
     for (size_t i = 0; i < tokens; i++) costs[i] = (uint8_t)(below(3) ? below(4) : below(256));
+    if (below(4) == 0) memset(costs, (int)below(2), tokens);
     for (size_t p = 0; p < rules + extra; p++) {
         uint16_t owner = (uint16_t)(p < rules ? (p + 1) % rules : below(8) ? 1 + below(rules - 1u) : 0);
         uint16_t from = layered ? (uint16_t)(owner + 1) : 1;
@@ -1011,6 +1141,7 @@ static void random_calls(int grammars) {
             c.token = (uint16_t)below((uint32_t)g.tokens + 1), c.prod = (uint16_t)below((uint32_t)g.prods + 1);
             c.mode = (uint16_t)(below(8) ? 1 + below(2) : below(4)), c.out_len = below(below(8) ? 60 : 100000);
             c.bytes_len = any_room(), c.version = (uint16_t)(below(8) ? 1 + below(2) : below(4));
+            c.k = below(4) ? below(below(2) ? 4 : 40) : below(2) ? 65530 + below(12) : next();
             size_t *len = &c.table_len[below(TABLES)], right = *len;
             if (below(12) == 0) *len = right + below(3) - (right > 0);
             run(&c);
@@ -1034,6 +1165,8 @@ int main(void) {
     exports();
     dead();
     lengths();
+    lists_of_rules();
+    long_lists();
     bad_grammars();
     list_lengths();
     numbers();

@@ -1,4 +1,5 @@
-/* Boltmarrow: FIRST, EMPTY, FOLLOW, paths, minimum costs and a cheapest sentence of a flat grammar.
+/* Boltmarrow: FIRST, EMPTY, FOLLOW, paths, minimum costs and the cheapest sentences of a flat
+ * grammar.
  *
  * A grammar is R rules (`rules`); owners (P numbers); starts (P+1 numbers); symbols (N numbers);
  * token costs (T bytes). P, N and T are the lists' lengths. Production p is symbols starts[p] up
@@ -11,8 +12,9 @@
  *
  * Numbers. A rule's, a token's and a production's number are types of their own, so that none can
  * be passed for another: boltmarrow_has_path(.., (boltmarrow_ridx){1}, (boltmarrow_ridx){2}). All
- * numbers have 16 bits. A wider one that is put into such a type, or handed over as `rules`, `mode`
- * or `version`, is cut to 16 bits before the call sees it: 65537 asks about rule 1. Check it before.
+ * numbers have 16 bits, but for `k`, the number of a sentence in a list, which has 32. A wider one
+ * that is put into such a type, or handed over as `rules`, `mode` or `version`, is cut to 16 bits
+ * before the call sees it: 65537 asks about rule 1. Check it before.
  *
  * Tables. A mark table (FIRST, FOLLOW) has R rows of (T+31)/32 words: token t of rule r is bit t%32
  * of word r*((T+31)/32) + t/32. EMPTY, PRODUCTIVE and the reached row are one row of (R+31)/32
@@ -24,12 +26,15 @@
  *
  * COST is R numbers, 0 to 65535, or 65536 where none is known. The lengths are R numbers, the count
  * of tokens of each rule's sentence: 65536 if it is longer than 65535, 65537 if the rule is
- * ungrounded (its choice is circular) or has no cost.
+ * ungrounded (its choice is circular) or has no cost. The counts are R numbers, how many cheapest
+ * sentences each rule has: 65536 for more than 65535, 65537 if the rule is circular through cheapest
+ * productions (14 of the calls on all cheapest sentences) or has no cost.
  *
  * Stack. boltmarrow_min_sentence takes up to 110 KB: 208 bytes for each level of rules in rules, of
- * which there are at most 512. boltmarrow_has_path, boltmarrow_reached_fill and
- * boltmarrow_follow_fill take 12 KB, every other call at most 1 KB. No call takes other memory than
- * its stack and its lists.
+ * which there are at most 512. boltmarrow_count_min_sentences takes up to 170 KB, 276 bytes a level,
+ * and boltmarrow_min_sentence_at up to 280 KB, 512 bytes a level. boltmarrow_has_path,
+ * boltmarrow_reached_fill and boltmarrow_follow_fill take 12 KB, every other call at most 1 KB. No
+ * call takes other memory than its stack and its lists.
  *
  * Refusals:
  *   1  R, T, P or N outside its limits (R 2..512, T 1..512, P 2..4096, N 1..16384)
@@ -44,8 +49,10 @@
  *  12  the rule asked for has no sentence
  *  13  it has one, but none costs 65535 or less
  *  14  the choice is circular: the first choice, the lowest-numbered cheapest production, of the
- *      rule or of one that it comes to leads back to that rule itself
+ *      rule or of one that it comes to leads back to that rule itself; in the calls on all cheapest
+ *      sentences: some cheapest production, the first or another, does
  *  15  the sentence is longer than 65535 or than the room lent
+ *  16  the rule has more than 65535 cheapest sentences, or not so many that there is a number k
  *  20  file empty, not whole blocks, or over 98 blocks
  *  21  a block's check differs
  *  22  a block's number is not its place
@@ -54,9 +61,9 @@
  *  25  a token other than eof costs nothing, in a file of version 2
  *  26  a file version other than 1 or 2
  *
- * The lowest number due is given; but the file reader's order is 7, 20, 21, 22, 1, 23, 25, 2 to 6,
- * and the file writer's 26, 1 to 6, 25, 24. A refusal leaves lent memory as found, but for what a
- * call's line says.
+ * The lowest number due is given; but 16 comes before 15, the file reader's order is 7, 20, 21, 22,
+ * 1, 23, 25, 2 to 6, and the file writer's 26, 1 to 6, 25, 24. A refusal leaves lent memory as found,
+ * but for what a call's line says.
  */
 #ifndef BOLTMARROW_H
 #define BOLTMARROW_H
@@ -186,6 +193,26 @@ boltmarrow_answer boltmarrow_min_sentence(BOLTMARROW_GRAMMAR, boltmarrow_ridx ru
                                           uint32_t *productive, size_t productive_len,
                                           uint32_t *cost, size_t cost_len, uint32_t *lengths,
                                           size_t lengths_len, uint16_t *out, size_t out_len);
+
+/* How many cheapest sentences a rule has: its derivations through cheapest productions only, those
+ * whose cost is their rule's. A sentence with two derivations counts twice. Refusals 1 to 7, 9; then
+ * the four tables are filled, and 12, 13, 14 or 16 may follow. */
+boltmarrow_answer boltmarrow_count_min_sentences(BOLTMARROW_GRAMMAR, boltmarrow_ridx rule,
+                                                 uint32_t *productive, size_t productive_len,
+                                                 uint32_t *cost, size_t cost_len,
+                                                 uint32_t *lengths, size_t lengths_len,
+                                                 uint32_t *counts, size_t counts_len);
+
+/* Writes cheapest sentence number k of a rule, from 0, to the front of `out`; the answer is its
+ * length. Productions rise, and within one the last place turns fastest; number 0 is what
+ * boltmarrow_min_sentence writes. Refusals 1 to 7, 9; then the four tables are filled, and 12, 13,
+ * 14, 16 and 15 may follow, in this order, which leave `out` as found. `out` is room of any length;
+ * `k` has 32 bits. */
+boltmarrow_answer boltmarrow_min_sentence_at(BOLTMARROW_GRAMMAR, boltmarrow_ridx rule, uint32_t k,
+                                             uint32_t *productive, size_t productive_len,
+                                             uint32_t *cost, size_t cost_len, uint32_t *lengths,
+                                             size_t lengths_len, uint32_t *counts,
+                                             size_t counts_len, uint16_t *out, size_t out_len);
 
 /* Reads a block file, of version 1 or 2, into lists of 4096, 4097, 16384 and 512, else 7. Fills the
  * front of each and keeps the rest, also when 2 to 6 follow; with 7, 20, 21, 22, 1, 23 and 25 all is

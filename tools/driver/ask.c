@@ -1,7 +1,8 @@
 /* Asks the library about flat grammars: standard input has one a line, and standard output a line of JSON for each.
  * Both have the form of tools/oracle/oracle.rs, with these differences: "costs" has an outcome for each rule,
- * "corrected" is FOLLOW of mode 2, "reached" the reached row, and an outcome is {"returned": [number..]} or
- * {"refused": number}. A refused grammar has the outcome of boltmarrow_check alone.
+ * "corrected" is FOLLOW of mode 2, "reached" the reached row, "counts" has an outcome for each rule, how many cheapest
+ * sentences it has, and an outcome is {"returned": [number..]} or {"refused": number}. A refused grammar has the outcome
+ * of boltmarrow_check alone.
  */
 #include <stdio.h>
 
@@ -13,8 +14,11 @@ static uint32_t rules, tokens, prods, length; /* R, T, P, N */
 static uint16_t owners[PRODS], starts[PRODS + 1], symbols[SYMBOLS];
 static uint8_t costs[TOKENS];
 static uint32_t first[RULES * TOKENS / 32], follow[RULES * TOKENS / 32];
-static uint32_t empty[RULES / 32], reached[RULES / 32], productive[RULES / 32], prices[RULES], lengths[RULES];
+static uint32_t empty[RULES / 32], reached[RULES / 32], productive[RULES / 32];
+static uint32_t prices[RULES], lengths[RULES], counts[RULES];
 static uint16_t sentence[ROOM];
+static uint32_t listed; /* so many rules have their lists asked for */
+static uint16_t lists[RULES];
 
 #define GRAMMAR (uint16_t)rules, owners, prods, starts, prods + 1, symbols, length, costs, tokens
 #define MARKS ((size_t)rules * ((tokens + 31) / 32))
@@ -53,7 +57,9 @@ static int read_grammar(void) {
         if (bytes[t] > 255) return -1;
         costs[t] = (uint8_t)bytes[t];
     }
-    return 1;
+    if (!numbers(sizes, 1) || sizes[0] > RULES) return -1;
+    listed = sizes[0];
+    return numbers(lists, listed) ? 1 : -1;
 }
 
 static const char *comma(uint32_t k) { return k ? "," : ""; }
@@ -122,6 +128,12 @@ static void print_costs(void) {
     printf("],");
 }
 
+static void print_tokens(uint32_t length) {
+    printf("[");
+    for (uint32_t k = 0; k < length; k++) printf("%s%u", comma(k), sentence[k]);
+    printf("]");
+}
+
 static void print_sentence(uint16_t rule) {
     boltmarrow_answer answer = boltmarrow_min_sentence(GRAMMAR, RIDX(rule), productive, ROW, prices, rules, lengths,
                                                        rules, sentence, ROOM);
@@ -129,9 +141,9 @@ static void print_sentence(uint16_t rule) {
         refused(answer.refusal);
         return;
     }
-    printf("{\"returned\":[");
-    for (uint32_t k = 0; k < answer.value; k++) printf("%s%u", comma(k), sentence[k]);
-    printf("]}");
+    printf("{\"returned\":");
+    print_tokens(answer.value);
+    printf("}");
 }
 
 static void print_sentences(void) {
@@ -140,15 +152,54 @@ static void print_sentences(void) {
         printf("%s", comma(r));
         print_sentence(r);
     }
-    printf("]");
+    printf("],");
 }
 
-static void answer(void) {
+#define WORKING productive, ROW, prices, rules, lengths, rules, counts, rules
+
+static void print_counts(void) {
+    printf("\"counts\":[");
+    for (uint16_t r = 0; r < rules; r++) {
+        printf("%s", comma(r));
+        outcome(boltmarrow_count_min_sentences(GRAMMAR, RIDX(r), WORKING));
+    }
+    printf("],");
+}
+
+/* All rows of a rule; those that are refused end the program, since a list that is asked for has none. */
+static int print_list(uint16_t rule) {
+    boltmarrow_answer count = boltmarrow_count_min_sentences(GRAMMAR, RIDX(rule), WORKING);
+    if (count.refusal) {
+        refused(count.refusal);
+        return 1;
+    }
+    printf("{\"returned\":[");
+    for (uint32_t k = 0; k < count.value; k++) {
+        boltmarrow_answer row = boltmarrow_min_sentence_at(GRAMMAR, RIDX(rule), k, WORKING, sentence, ROOM);
+        if (row.refusal) return 0;
+        printf("%s", comma(k));
+        print_tokens(row.value);
+    }
+    printf("]}");
+    return 1;
+}
+
+static int print_lists(void) {
+    printf("\"lists\":[");
+    for (uint32_t k = 0; k < listed; k++) {
+        printf("%s", comma(k));
+        if (!print_list(lists[k])) return 0;
+    }
+    printf("]");
+    return 1;
+}
+
+static int answer(void) {
     boltmarrow_answer check = boltmarrow_check(GRAMMAR);
     if (check.refusal) {
         outcome(check);
         printf("\n");
-        return;
+        return 1;
     }
     printf("{");
     boltmarrow_first_fill(GRAMMAR, first, MARKS, empty, ROW);
@@ -162,13 +213,19 @@ static void answer(void) {
     print_beyond();
     print_costs();
     print_sentences();
+    print_counts();
+    int whole = print_lists();
     printf("}\n");
+    return whole;
 }
 
 int main(void) {
     int found;
     while ((found = read_grammar()) > 0) {
-        answer();
+        if (!answer()) {
+            fprintf(stderr, "ask: a row of a list is refused\n");
+            return 2;
+        }
         fflush(stdout);
     }
     if (found < 0) fprintf(stderr, "ask: a line is no grammar\n");

@@ -8,7 +8,7 @@
 
 #include "boltmarrow.h"
 
-enum { NUMBERS = 3, LISTS = 8, ROOM = 1 << 20, GUARD = 64, GUARDED = 0xa5 };
+enum { NUMBERS = 3, LISTS = 9, ROOM = 1 << 20, GUARD = 64, GUARDED = 0xa5 };
 
 struct list {
     char kind; /* b, h or w: of 8, 16 or 32 bits */
@@ -17,7 +17,7 @@ struct list {
 };
 
 struct call {
-    uint16_t number[NUMBERS];
+    uint32_t number[NUMBERS];
     struct list list[LISTS];
     size_t numbers, lists;
     uint32_t answer[6];
@@ -34,10 +34,11 @@ static void says(struct call *c, boltmarrow_answer said) {
 #define BYTES(k) c->list[k].at, c->list[k].len
 #define HALVES(k) (uint16_t *)(void *)c->list[k].at, c->list[k].len
 #define WORDS(k) (uint32_t *)(void *)c->list[k].at, c->list[k].len
-#define RIDX(k) ((boltmarrow_ridx){c->number[k]})
-#define TIDX(k) ((boltmarrow_tidx){c->number[k]})
-#define PIDX(k) ((boltmarrow_pidx){c->number[k]})
-#define GRAMMAR c->number[0], HALVES(0), HALVES(1), HALVES(2), BYTES(3)
+#define NUMBER(k) (uint16_t)c->number[k]
+#define RIDX(k) ((boltmarrow_ridx){NUMBER(k)})
+#define TIDX(k) ((boltmarrow_tidx){NUMBER(k)})
+#define PIDX(k) ((boltmarrow_pidx){NUMBER(k)})
+#define GRAMMAR NUMBER(0), HALVES(0), HALVES(1), HALVES(2), BYTES(3)
 #define CALL(name, ...)                                                                                                \
     static void name(struct call *c) { says(c, boltmarrow_##name(__VA_ARGS__)); }
 
@@ -57,10 +58,12 @@ CALL(cost_fill, GRAMMAR, WORDS(4))
 CALL(min_sentence_cost, GRAMMAR, RIDX(1), WORDS(4), WORDS(5))
 CALL(reached_fill, GRAMMAR, WORDS(4))
 CALL(follow_clear, GRAMMAR, WORDS(4))
-CALL(follow_visit, GRAMMAR, c->number[1], PIDX(2), WORDS(4), WORDS(5), WORDS(6), WORDS(7))
-CALL(follow_fill, GRAMMAR, c->number[1], WORDS(4), WORDS(5), WORDS(6), WORDS(7))
+CALL(follow_visit, GRAMMAR, NUMBER(1), PIDX(2), WORDS(4), WORDS(5), WORDS(6), WORDS(7))
+CALL(follow_fill, GRAMMAR, NUMBER(1), WORDS(4), WORDS(5), WORDS(6), WORDS(7))
 CALL(min_sentence, GRAMMAR, RIDX(1), WORDS(4), WORDS(5), WORDS(6), HALVES(7))
-CALL(write_blocks, GRAMMAR, c->number[1], BYTES(4))
+CALL(count_min_sentences, GRAMMAR, RIDX(1), WORDS(4), WORDS(5), WORDS(6), WORDS(7))
+CALL(min_sentence_at, GRAMMAR, RIDX(1), c->number[2], WORDS(4), WORDS(5), WORDS(6), WORDS(7), HALVES(8))
+CALL(write_blocks, GRAMMAR, NUMBER(1), BYTES(4))
 
 static void production(struct call *c) {
     boltmarrow_stretch said = boltmarrow_production(GRAMMAR, PIDX(1));
@@ -74,7 +77,7 @@ static void read_blocks(struct call *c) {
     c->answers = 6;
 }
 
-/* n: a number; else a list */
+/* n: a number of 16 bits, k one of 32; else a list */
 static const struct {
     void (*make)(struct call *);
     const char *kinds;
@@ -99,6 +102,8 @@ static const struct {
     {follow_visit, "nhhhbnnwwww"},
     {follow_fill, "nhhhbnwwww"},
     {min_sentence, "nhhhbnwwwh"},
+    {count_min_sentences, "nhhhbnwwww"},
+    {min_sentence_at, "nhhhbnkwwwwh"},
     {write_blocks, "nhhhbnb"},
     {read_blocks, "bhhhb"},
 };
@@ -139,12 +144,12 @@ static int read_list(struct call *c, char kind) {
 static int read_call(struct call *c, const char *kinds) {
     for (; *kinds; kinds++) {
         uint32_t number;
-        if (*kinds != 'n') {
+        if (*kinds != 'n' && *kinds != 'k') {
             if (!read_list(c, *kinds)) return 0;
-        } else if (!word(&number) || !fits(number, 'h')) {
+        } else if (!word(&number) || (*kinds == 'n' && !fits(number, 'h'))) {
             return 0;
         } else {
-            c->number[c->numbers++] = (uint16_t)number;
+            c->number[c->numbers++] = number;
         }
     }
     return 1;

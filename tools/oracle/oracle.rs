@@ -1,16 +1,18 @@
 //! Asks the Rust crate about flat grammars. Standard input has one well-formed grammar a line, whose rule 0 owns one
-//! production, since the crate builds no others; all numbers in this order, with one space between:
+//! production, since the crate builds no others, and some of its rules; all numbers in this order, with one space
+//! between:
 //!
-//!     R T P N, P owners, P+1 starts, N symbols, T token costs
+//!     R T P N, P owners, P+1 starts, N symbols, T token costs, how many rules, these rules
 //!
 //! Standard output has one line of JSON for each:
 //!
 //!     {"first": [[token..]..], "empty": [0 or 1..], "follow": [[token..]..], "path": [[0 or 1..]..],
-//!      "beyond": [OUTCOME..], "costs": OUTCOME, "sentences": [OUTCOME..]}
+//!      "beyond": [OUTCOME..], "costs": OUTCOME, "sentences": [OUTCOME..], "lists": [OUTCOME..]}
 //!
 //! with an entry for each rule, and an outcome of {"returned": [number..]}, {"panicked": "message"}, "out of time" or
-//! "out of memory". Beyond the numbers are production P, the path from rule R to 0 and that from 0 to R. Costs and
-//! sentences are asked in child processes. A child answers one question after the other until one of them runs out of
+//! "out of memory". The lists are what `min_sentences` gives for the rules named: an entry for each of these, which has a
+//! list of lists. Beyond the numbers are production P, the path from rule R to 0 and that from 0 to R. Costs, sentences
+//! and lists are asked in child processes. A child answers one question after the other until one of them runs out of
 //! the limits below; the next child goes on behind it. `oracle TIMES` gives so many times the time.
 mod text;
 
@@ -41,6 +43,8 @@ struct Flat {
     starts: Vec<u16>,
     symbols: Vec<u16>,
     costs: Vec<u8>,
+    /// The rules whose lists are asked for.
+    listed: Vec<u16>,
 }
 
 impl Flat {
@@ -52,7 +56,9 @@ impl Flat {
         let mut list = |len| Some(left.by_ref().take(len).collect()).filter(|list: &Vec<u16>| list.len() == len);
         let (owners, starts, symbols, costs) = (list(prods)?, list(prods + 1)?, list(symbols)?, list(tokens)?);
         let costs = costs.into_iter().map(|cost| cost.try_into().ok()).collect::<Option<_>>()?;
-        left.next().is_none().then_some(Flat { rules, owners, starts, symbols, costs })
+        let count = list(1)?[0];
+        let listed = list(count.into())?;
+        left.next().is_none().then_some(Flat { rules, owners, starts, symbols, costs, listed })
     }
 
     fn body(&self, prod: usize) -> &[u16] {
@@ -128,6 +134,7 @@ fn answer(flat: &Flat, times: u32) -> String {
     let follow = listed(rules().map(|r| held(tokens, |t| follows.is_set(r, TIdx(t)))));
     let path = listed(rules().map(|a| listed(rules().map(|b| grm.has_path(a, b) as u8))));
     let mut outcomes = outcomes(&grm, flat, times);
+    let lists = outcomes.split_off(1 + usize::from(flat.rules));
     let costs = outcomes.remove(0);
     let entries = [
         ("first", first),
@@ -137,6 +144,7 @@ fn answer(flat: &Flat, times: u32) -> String {
         ("beyond", listed(beyond(&grm, flat).into_iter())),
         ("costs", costs),
         ("sentences", listed(outcomes.into_iter())),
+        ("lists", listed(lists.into_iter())),
     ];
     format!("{{{}}}", entries.map(|(name, entry)| format!("\"{name}\":{entry}")).join(","))
 }
@@ -144,14 +152,15 @@ fn answer(flat: &Flat, times: u32) -> String {
 /// What the crate makes of the first numbers that are out of range.
 fn beyond(grm: &YaccGrammar<u16>, flat: &Flat) -> [String; 3] {
     let (rule, prod) = (RIdx(flat.rules), PIdx(flat.owners.len() as u16));
-    let path = |from, to| vec![grm.has_path(from, to) as u16];
-    [caught(|| vec![grm.prod(prod).len() as u16]), caught(|| path(rule, RIdx(0))), caught(|| path(RIdx(0), rule))]
+    let path = |from, to| listed([grm.has_path(from, to) as u16].into_iter());
+    let len = || listed([grm.prod(prod).len()].into_iter());
+    [caught(len), caught(|| path(rule, RIdx(0))), caught(|| path(RIdx(0), rule))]
 }
 
 /// What a question returns, or its panic.
-fn caught(question: impl FnOnce() -> Vec<u16>) -> String {
+fn caught(question: impl FnOnce() -> String) -> String {
     match catch_unwind(AssertUnwindSafe(question)) {
-        Ok(numbers) => format!("{{\"returned\":{}}}", listed(numbers.into_iter())),
+        Ok(list) => format!("{{\"returned\":{list}}}"),
         Err(panic) => {
             let text = panic.downcast_ref::<String>().map(String::as_str).or(panic.downcast_ref::<&str>().copied());
             format!("{{\"panicked\":{:?}}}", text.unwrap_or("no message"))
@@ -159,11 +168,11 @@ fn caught(question: impl FnOnce() -> Vec<u16>) -> String {
     }
 }
 
-/// The outcomes of the costs and of each rule's sentence.
+/// The outcomes of the costs, of each rule's sentence, and of the lists asked for.
 fn outcomes(grm: &YaccGrammar<u16>, flat: &Flat, times: u32) -> Vec<String> {
     let most = LONGEST.min(QUESTION + SYMBOL * flat.symbols.len() as u32);
     let mut found: Vec<String> = Vec::new();
-    while found.len() <= flat.rules.into() {
+    while found.len() < questions(flat) {
         let time = if found.first().is_some_and(|costs| costs == OUT_OF_TIME) { SENTENCE } else { most };
         let (lines, ended) = Child::start(|| answer_from(found.len(), grm, flat)).finish(time * times);
         found.extend(lines);
@@ -172,18 +181,25 @@ fn outcomes(grm: &YaccGrammar<u16>, flat: &Flat, times: u32) -> Vec<String> {
     found
 }
 
-/// Writes the outcome of each question from that number on: 0 asks for the costs, r + 1 for the sentence of rule r.
+fn questions(flat: &Flat) -> usize {
+    1 + usize::from(flat.rules) + flat.listed.len()
+}
+
+/// Writes the outcome of each question from that number on: 0 asks for the costs, r + 1 for the sentence of rule r, and
+/// those behind the last rule for the lists.
 fn answer_from(first: usize, grm: &YaccGrammar<u16>, flat: &Flat) {
     let sentences = grm.sentence_generator(|token| flat.costs[usize::from(token)]);
-    for question in first..=flat.rules.into() {
+    for question in first..questions(flat) {
         println!("{}", caught(|| asked(question, &sentences, flat)));
     }
 }
 
-fn asked(question: usize, sentences: &SentenceGenerator<u16>, flat: &Flat) -> Vec<u16> {
-    match question.checked_sub(1) {
-        None => (0..flat.rules).map(|r| sentences.min_sentence_cost(RIdx(r))).collect(),
-        Some(r) => sentences.min_sentence(RIdx(r as u16)).into_iter().map(|token| token.as_storaget()).collect(),
+fn asked(question: usize, sentences: &SentenceGenerator<u16>, flat: &Flat) -> String {
+    let sentence = |tokens: Vec<TIdx<u16>>| listed(tokens.into_iter().map(|token| token.as_storaget()));
+    match (question.checked_sub(1), question.checked_sub(1 + usize::from(flat.rules))) {
+        (_, Some(k)) => listed(sentences.min_sentences(RIdx(flat.listed[k])).into_iter().map(sentence)),
+        (Some(r), None) => sentence(sentences.min_sentence(RIdx(r as u16))),
+        (None, None) => listed((0..flat.rules).map(|r| sentences.min_sentence_cost(RIdx(r)))),
     }
 }
 

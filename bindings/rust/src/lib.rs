@@ -46,5 +46,5 @@ pub use grammar::Grammar;
 pub use idx::{PIdx, RIdx, SIdx, Symbol, TIdx};
 pub use reached::Reached;
 pub use refusal::Refusal;
-pub use sentences::SentenceGenerator;
+pub use sentences::{MinSentences, SentenceGenerator};
 pub use version::Version;

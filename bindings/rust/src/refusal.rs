@@ -32,10 +32,13 @@ pub enum Refusal {
     /// The rule has a sentence, but none costs 65535 or less.
     Dear = 13,
     /// The first choice, the lowest-numbered of the cheapest productions, of the rule or of one that it comes to leads
-    /// back to that rule itself. There is a sentence as cheap by another choice.
+    /// back to that rule itself. There is a sentence as cheap by another choice. Of all cheapest sentences: any cheapest
+    /// production does, the first choice or another, so that the list would not end.
     Circular = 14,
     /// The sentence is longer than 65535 tokens, or than the room for it.
     Room = 15,
+    /// The rule has more than 65535 cheapest sentences, or not so many that there is one of this number.
+    TooMany = 16,
     /// The file is empty, not whole blocks, or over 98 blocks.
     FileLength = 20,
     /// A block's check differs.
@@ -72,6 +75,7 @@ impl Refusal {
         Dear,
         Circular,
         Room,
+        TooMany,
         FileLength,
         BlockCheck,
         BlockNumber,
@@ -113,9 +117,10 @@ impl Refusal {
             Dear => "every sentence of the rule costs more than 65535",
             Circular => {
                 "the first choice, the lowest-numbered cheapest production, of the rule or of one that it comes to \
-                 leads back to that rule itself"
+                 leads back to that rule itself; of all cheapest sentences, some cheapest production does"
             }
             Room => "the sentence is longer than 65535 tokens or than the room for it",
+            TooMany => "the rule has more than 65535 cheapest sentences, or none of this number",
             FileLength => "the file is empty, is not made of whole blocks of 512 bytes, or has more than 98",
             BlockCheck => "a block of the file is damaged: its check does not fit its bytes",
             BlockNumber => "a block of the file is out of place: its number is not its position",

@@ -125,7 +125,66 @@ exports! {
     boltmarrow_follow_visit = follow_visit(mode prod; follow: u32; first: u32, empty: u32, reached: u32;) -> Answer;
     boltmarrow_follow_fill = follow_fill(mode; follow: u32, first: u32, empty: u32, reached: u32;;) -> Answer;
     boltmarrow_min_sentence = min_sentence(rule; productive: u32, cost: u32, lengths: u32, out: u16;;) -> Answer;
+    boltmarrow_count_min_sentences =
+        count_min_sentences(rule; productive: u32, cost: u32, lengths: u32, counts: u32;;) -> Answer;
     boltmarrow_write_blocks = write_blocks(version; out: u8;;) -> Answer;
+}
+
+extern "C" {
+    fn boltmarrow_min_sentence_at(
+        rules: u16,
+        owners: *const u16,
+        _: usize,
+        starts: *const u16,
+        _: usize,
+        symbols: *const u16,
+        _: usize,
+        costs: *const u8,
+        _: usize,
+        rule: u16,
+        k: u32,
+        productive: *mut u32,
+        _: usize,
+        cost: *mut u32,
+        _: usize,
+        lengths: *mut u32,
+        _: usize,
+        counts: *mut u32,
+        _: usize,
+        out: *mut u16,
+        _: usize,
+    ) -> Answer;
+}
+
+/// The tables are PRODUCTIVE, COST, the lengths and the counts.
+pub(crate) fn min_sentence_at(g: Flat, rule: u16, k: u32, tables: [&mut [u32]; 4], out: &mut [u16]) -> Answer {
+    let [productive, cost, lengths, counts] = tables;
+    // Safe: see the head of this file.
+    unsafe {
+        boltmarrow_min_sentence_at(
+            g.rules,
+            g.owners.as_ptr(),
+            g.owners.len(),
+            g.starts.as_ptr(),
+            g.starts.len(),
+            g.symbols.as_ptr(),
+            g.symbols.len(),
+            g.costs.as_ptr(),
+            g.costs.len(),
+            rule,
+            k,
+            productive.as_mut_ptr(),
+            productive.len(),
+            cost.as_mut_ptr(),
+            cost.len(),
+            lengths.as_mut_ptr(),
+            lengths.len(),
+            counts.as_mut_ptr(),
+            counts.len(),
+            out.as_mut_ptr(),
+            out.len(),
+        )
+    }
 }
 
 extern "C" {

@@ -15,6 +15,10 @@ use Rattle.costs.specs.Query.{Work, Priced}
 use Rattle.costs.proofs.Exactly.{kinds}
 use Rattle.sentences.specs.Query.{Lends, Sentenced}
 use Rattle.sentences.proofs.Exactly.{Fate, none, dear, circular, long, is, fate, said, says-said}
+use Rattle.listings.specs.Calls as Listings
+use Rattle.listings.specs.Calls.{CountDone, NumberDone}
+use Rattle.listings.proofs.Exactly as All
+use Rattle.listings.proofs.Exactly.{counts-said, numbers-said}
 use Rattle.blocks.specs.Reading.{Lists, Reads}
 use Rattle.boltmarrow.specs.Exports.{answerOf}
 
@@ -73,6 +77,29 @@ sentenced-numbered g r out x = subst Numbered (sym (says-said (x .says) (fate g 
     go (circular n h) = omega arith
     go (long w y h) = omega arith
     go (is w y a b) = tt
+
+pub counted-numbered : (g : Flat) (r : ℕ) {s : Outcome ℕ} {a : Listings.Work} → CountDone g r s a → Numbered s
+counted-numbered g r {a = a} x = subst Numbered (sym (counts-said (x .counts) (All.fate g r a (x .final)))) (go (All.fate g r a (x .final)))
+  where
+    go : {c : ℕ → ℕ} (f : All.Fate g c r) → Numbered (All.said f)
+    go (All.none h) = omega arith
+    go (All.dear h) = omega arith
+    go (All.circular y) = omega arith
+    go (All.many l h) = omega arith
+    go (All.is l h) = tt
+
+pub number-numbered : (g : Flat) (r k : ℕ) (out : List ℕ) {s : Outcome ℕ} {a : Listings.Lends} → NumberDone g r k out s a → Numbered s
+number-numbered g r k out {a = a} x =
+    let f = All.row g _ r k out (All.fate g r (a .tables) (x .final)) in
+    subst Numbered (sym (numbers-said (x .numbers) f)) (go f)
+  where
+    go : {c : ℕ → ℕ} (f : All.Row g c r k out) → Numbered (All.row-said f)
+    go (All.row-none h) = omega arith
+    go (All.row-dear h) = omega arith
+    go (All.row-circular y) = omega arith
+    go (All.row-past l h) = omega arith
+    go (All.row-long l h m t) = omega arith
+    go (All.row-is l h m a b) = tt
 
 pub writes-numbered : {w out to : List ℕ} {s : Outcome ℕ} → Writes w out s to → Numbered s
 writes-numbered x = answered _ (x .counts)

@@ -17,6 +17,8 @@ use Rattle.costs.specs.Query.{costIs}
 use Rattle.costs.specs.declared.Cost.{Cost}
 use Rattle.sentences.specs.Query.{lengthIs}
 use Rattle.sentences.specs.declared.Length.{Length}
+use Rattle.listings.specs.Calls.{countedIs}
+use Rattle.listings.specs.declared.Counted.{Counted}
 use Rattle.blocks.specs.Reading.{readingIs}
 use Rattle.blocks.specs.declared.Counts.{Counts as Sizes}
 use Rattle.blocks.specs.declared.Reading.{Reading}
@@ -64,6 +66,9 @@ costAnswer c = answerOf (costIs c)
 
 abbrev pub lengthAnswer : Length → Answer
 lengthAnswer l = answerOf (lengthIs l)
+
+abbrev pub countedAnswer : Counted → Answer
+countedAnswer c = answerOf (countedIs c)
 
 abbrev pub writtenAnswer : Written → Answer
 writtenAnswer w = answerOf (writtenIs w)

@@ -26,7 +26,7 @@ use Rattle.sentences.specs.Lent.{choicesOf}
 use Rattle.sentences.specs.Choosing.{FromReady, CheapestFrom, Choosable, FirstChoices}
 
 -- a production suits no rule but its owner
-unfit : (g : Flat) (cost : List ℕ) (r p : ℕ) → (at (g .owners) p ≡ r → ⊥) → suits (denoted g) (price g) (costsOf cost) r p ≡ false
+pub unfit : (g : Flat) (cost : List ℕ) (r p : ℕ) → (at (g .owners) p ≡ r → ⊥) → suits (denoted g) (price g) (costsOf cost) r p ≡ false
 unfit g cost r p d = rw (ne-eqb r (at (g .owners) p) (λ e. d (sym e)))
 
 -- `cheapest_from`: q is one of r's productions or past the last, and those from p up to q do not cost what r does

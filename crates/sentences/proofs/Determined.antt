@@ -32,7 +32,7 @@ sentenced-one g r out s t a b x y =
       left = ap (λ u. lends u (a .cost) (a .lengths) (a .out)) p ∙ ap (λ u. lends (b .productive) u (a .lengths) (a .out)) c ∙ ap (λ u. lends (b .productive) (b .cost) u (a .out)) l ∙ ap (lends (b .productive) (b .cost) (b .lengths)) o;
     }
 
-length-answer-one : (a b : Answer) → lengthIs a ≡ lengthIs b → a ≡ b
+pub length-answer-one : (a b : Answer) → lengthIs a ≡ lengthIs b → a ≡ b
 length-answer-one = told-apart lengthIs back same
   where
     back : Outcome ℕ → Answer

@@ -40,7 +40,7 @@ pub fn work(
     length_fill(rules, owners, starts, symbols, costs, choice, lengths);
 }
 
-fn size(x: u32) -> usize
+pub fn size(x: u32) -> usize
     ensures { λ r. ⌜ r ≡ x ⌝ }
 {
     x as usize

@@ -19,3 +19,12 @@ pub mod Choices
 pub mod Lengths
 pub mod Levels
 pub mod Expanding
+pub mod Derivations
+pub mod Listing
+pub mod Depth
+pub mod Counts
+pub mod Counting
+pub mod AllListed
+pub mod Odometer
+pub mod Numbers
+pub mod ListingExamples

@@ -217,6 +217,39 @@ fn costs_are_equal(name: &str, flat: &Grammar, grm: &YaccGrammar<u16>) {
     }
 }
 
+/// All cheapest sentences of each rule that has at most so many, row by row; the crate's repeat nothing.
+fn lists_are_equal(name: &str, flat: &Grammar, grm: &YaccGrammar<u16>) {
+    let own = grm.sentence_generator(|tidx| flat.token_cost(token(tidx)).unwrap());
+    let sentences = flat.sentence_generator();
+    for ridx in
+        grm.iter_rules().filter(|&ridx| sentences.count_min_sentences(rule(ridx)).is_ok_and(|count| count <= 300))
+    {
+        let rows: Vec<Vec<_>> =
+            own.min_sentences(ridx).into_iter().map(|row| row.into_iter().map(token).collect()).collect();
+        let list = sentences.min_sentences(rule(ridx)).unwrap();
+        assert_eq!(list.collect::<Result<Vec<_>, _>>(), Ok(rows), "{name}: {ridx:?}");
+    }
+}
+
+/// Row: House , Value; House: n | s; Value: digits | -. Both have the four rows in this order.
+#[test]
+fn all_cheapest_rows_in_the_grammars_own_names() -> Result<(), Refusal> {
+    let names = "token n\ntoken s\ntoken ,\ntoken digits\ntoken -\nrule Row\nrule House\nrule Value\nstart Row\n";
+    let prods = "prod Row rule:House token:, rule:Value\nprod House token:n\nprod House token:s\n\
+                 prod Value token:digits\nprod Value token:-";
+    let grm = yacc(&[names, prods].concat());
+    let flat = flatten(&grm, |_| 1)?;
+    let mut rows = vec![];
+    for row in flat.sentence_generator().min_sentences(flat.start_rule_idx())? {
+        let named: Result<Vec<_>, _> =
+            row?.into_iter().map(|tidx| Ok(grm.token_name(token_of(&grm, tidx)?).unwrap())).collect();
+        rows.push(named?.join(" "));
+    }
+    assert_eq!(rows, ["n , digits", "n , -", "s , digits", "s , -"]);
+    lists_are_equal("rows", &flat, &grm);
+    Ok(())
+}
+
 #[test]
 fn examples_have_the_crates_own_answers() {
     let examples = examples();
@@ -232,6 +265,7 @@ fn examples_have_the_crates_own_answers() {
         paths_are_equal(&name, &flat, &grm);
         if !NO_COSTS.contains(&&name[..]) {
             costs_are_equal(&name, &flat, &grm);
+            lists_are_equal(&name, &flat, &grm);
         }
     }
 }

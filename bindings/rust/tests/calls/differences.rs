@@ -4,7 +4,7 @@
 use boltmarrow::{Mode, RIdx, Refusal, TIdx};
 
 use crate::grammars::{built, dead, well, RULE};
-use crate::sentences::{cost, sentence};
+use crate::sentences::{cost, count, list, sentence};
 
 const A: u16 = RULE + 1;
 const B: u16 = RULE + 2;
@@ -74,6 +74,35 @@ fn rules_with_empty_sentences_take_no_time() {
     // A: B 40 times; B: nothing
     let grm = well(3, &[(0, &[A]), (1, &[B; 40]), (2, &[])], &[1]);
     assert_eq!((cost(&grm, 1), sentence(&grm, 1)), (Ok(0), Ok(vec![])));
+}
+
+#[test]
+fn lists_that_would_not_end() {
+    // A: a; A: A: the first choice gives a sentence, all choices give no end
+    let grm = well(2, &[(0, &[A]), (1, &[0]), (1, &[A])], &[1, 1]);
+    assert_eq!((sentence(&grm, 1), list(&grm, 1)), (Ok(vec![0]), Err(Refusal::Circular)));
+    // B: b; B: A; A: a; A: A: B comes to that circle by its second cheapest production; B: A b would be dearer
+    let [cheap, dear] =
+        [&[A][..], &[A, 1]].map(|body| well(3, &[(0, &[B]), (2, &[1]), (2, body), (1, &[0]), (1, &[A])], &[1, 1, 1]));
+    assert_eq!((sentence(&cheap, 2), list(&cheap, 2)), (Ok(vec![1]), Err(Refusal::Circular)));
+    assert_eq!((sentence(&dear, 2), list(&dear, 2)), (Ok(vec![1]), Ok(vec![vec![1]])));
+    assert_eq!(list(&dear, 1), Err(Refusal::Circular));
+}
+
+#[test]
+fn lists_that_are_too_long() {
+    // A: B B; B: a, 256 times
+    let mut prods: Vec<(u16, &[u16])> = vec![(0, &[A]), (1, &[B, B])];
+    prods.extend(vec![(2, &[0][..]); 256]);
+    let grm = well(3, &prods, &[1, 1]);
+    assert_eq!((count(&grm, 1), count(&grm, 2)), (Err(Refusal::TooMany), Ok(256)));
+}
+
+#[test]
+fn lists_have_each_part_once_as_the_rusts() {
+    // A: B a; B: b; B: c: the Rust's min_sentence writes a again, its min_sentences does not
+    let grm = well(3, &[(0, &[A]), (1, &[B, 0]), (2, &[1]), (2, &[2])], &[1; 4]);
+    assert_eq!(list(&grm, 1), Ok(vec![vec![1, 0], vec![2, 0]]));
 }
 
 #[test]

@@ -8,7 +8,7 @@ ghost use Rattle.grammar.specs.Flat.{flat};
 ghost use Rattle.sentences.specs.Choosing.{FromReady, CheapestFrom, Choosable, FirstChoices};
 
 // Finds the cost of rule r, then goes up its productions from p on to the first that has it; 4096 where none has.
-fn cheapest_from(
+pub fn cheapest_from(
     rules: u16,
     owners: &[u16],
     starts: &[u16],

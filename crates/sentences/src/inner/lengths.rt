@@ -21,7 +21,7 @@ fn symbol_length(lengths: &[u32], s: u16) -> u32
 }
 
 // A sum of two lengths, 65536 if it is above 65535.
-fn add(n: u32, x: u32) -> u32
+pub fn add(n: u32, x: u32) -> u32
     requires { ⌜ (n ≤ 65536) × (x ≤ 65536) ⌝ }
     ensures { λ r. ⌜ r ≡ min (n + x) 65536 ⌝ }
 {

@@ -1,0 +1,74 @@
+//! Commands for people over the proved library. Each is a subcommand of this program and a module of its own; bin/NAME
+//! of the repository builds the program and runs it:
+//!
+//!     boltmarrow rows FILE [RULE]         bin/rows
+//!
+//! What all of them share: the words behind the command (words.rs); a grammar with its names, from a block file or a
+//! readable text (input.rs, text.rs, names.rs); what is printed (output.rs); how a command ends (failure.rs).
+#![deny(unsafe_code)]
+
+mod failure;
+mod input;
+mod names;
+mod output;
+mod rows;
+mod text;
+mod words;
+
+use std::env;
+use std::ffi::OsString;
+use std::fmt::Display;
+use std::io::{self, Write};
+use std::process::exit;
+
+use failure::Failure;
+use output::Output;
+use words::Words;
+
+/// A subcommand.
+pub struct Command {
+    name: &'static str,
+    /// What `--help` prints.
+    help: &'static str,
+    /// How many words it takes, at least and at most.
+    words: (usize, usize),
+    run: fn(&[OsString], &mut Output) -> Result<(), Failure>,
+}
+
+const COMMANDS: &[Command] = &[rows::COMMAND];
+
+fn run(command: &Command, words: impl Iterator<Item = OsString>) -> Result<(), Failure> {
+    let mut output = Output::new();
+    match Words::read(words, command.words)? {
+        Words::Help => output.line(command.help)?,
+        Words::Given(words) => (command.run)(&words, &mut output)?,
+    }
+    output.flush()
+}
+
+/// Says what went wrong, and how the command is used where that is what is wrong; the status.
+fn failed(command: &Command, failure: &Failure) -> i32 {
+    say(format!("{}: {failure}", command.name));
+    if let Failure::Use(_) = failure {
+        say(command.help);
+    }
+    failure.status()
+}
+
+/// To standard error. Where that can't be written the status tells.
+fn say(words: impl Display) {
+    let _ = writeln!(io::stderr(), "{words}");
+}
+
+fn main() {
+    let mut words = env::args_os().skip(1);
+    let name = words.next().unwrap_or_default();
+    exit(match COMMANDS.iter().find(|command| name == command.name) {
+        Some(command) => run(command, words).err().map_or(0, |failure| failed(command, &failure)),
+        None => {
+            let names: Vec<_> = COMMANDS.iter().map(|command| command.name).collect();
+            say(format!("use: boltmarrow COMMAND ..; the commands: {}", names.join(", ")));
+            2
+        }
+    })
+}

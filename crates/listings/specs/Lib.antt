@@ -1,0 +1,4 @@
+pub mod Calls
+pub mod Counting
+pub mod Numbers
+pub mod Working

@@ -6,7 +6,7 @@ use Prim.Native.Nat.{ℕ, _+_, _≤_, _<_, min}
 use lib.ListN.{length}
 use Rattle.theory.specs.Fills.{turns, Moves, Settles}
 use Rattle.theory.specs.Grammar.{Form}
-use Rattle.theory.specs.Levels.{Chosen, formLength, known, lengthVisit, LengthTrue, LengthExact}
+use Rattle.theory.specs.Levels.{Chosen, formLength, lengthVisit, LengthTrue, LengthExact}
 use Rattle.theory.specs.Visits.{Costs, allMarked}
 use Rattle.grammar.specs.Flat.{Flat, at, symbol, denoted, price}
 use Rattle.grammar.specs.Well.{WellFormed}

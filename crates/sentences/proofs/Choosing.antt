@@ -13,6 +13,7 @@ use Rattle.theory.specs.Below.{FirstBelow}
 use Rattle.theory.specs.Levels.{suits}
 use Rattle.theory.specs.Visits.{formCost}
 use Rattle.theory.proofs.Choices.{chosen-all}
+use Rattle.theory.proofs.Cost.{sum-cut}
 use Rattle.grammar.specs.Flat.{Flat, flat, at, ProdAt, form, denoted, price}
 use Rattle.grammar.specs.Links.{Leads, Linked, Linkable}
 use Rattle.grammar.specs.Well.{WellFormed}
@@ -94,9 +95,9 @@ module _ (rules : ℕ) (owners starts symbols costs next cost : List ℕ) (r p :
             abbrev f : ℕ
             f = formCost (at costs) (costsOf cost) (denoted g .body q)
 
-            cut : s ≡ min f 65536
+            cut : min s 65536 ≡ min f 65536
             unfolding sumOf
-            cut = es ∙ rw (at-prod .body)
+            cut = ap (λ z. min z 65536) es ∙ rw (at-prod .body) (sum-cut (at costs) (costsOf cost) (form symbols a e))
 
             fits : (b : Bool) → eqb f least ≡ b → suits (denoted g) (price g) (costsOf cost) r q ≡ b
             fits b k = rw (x .owns l, eq-eqb r r refl, held, le-leb least 65535 cheap) k

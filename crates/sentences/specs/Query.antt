@@ -14,9 +14,9 @@ use Rattle.grammar.specs.Flat.{Flat, denoted, price}
 use Rattle.grammar.specs.Outcome.{Outcome, answers, refused, unless}
 use Rattle.grammar.specs.Refusals.{unlessDue}
 use Rattle.tables.specs.Call.{Call}
-use Rattle.tables.specs.Sizes.{rowWrong, numbersWrong}
+use Rattle.tables.specs.Sizes.{numbersWrong}
 use Rattle.costs.specs.Lent.{costsOf}
-use Rattle.costs.specs.Defined.{ProductiveDefined, CostDefined}
+use Rattle.costs.specs.Defined.{CostDefined}
 use Rattle.sentences.specs.declared.Length.{Length as Answer}
 use Rattle.sentences.specs.declared.Length.the-variants.{Is, Refused}
 use Rattle.sentences.specs.Measuring.{LengthsDefined}
@@ -26,20 +26,19 @@ abbrev pub lengthIs : Answer → Outcome ℕ
 lengthIs (Is n) = answers n
 lengthIs (Refused n) = refused n
 
--- what is lent: the working tables (PRODUCTIVE, COST and one length number a rule), and the output
+-- what is lent: the working tables (COST and one length number a rule), and the output
 pub record Lends : Type 0 where
-  pub productive : List ℕ
   pub cost : List ℕ
   pub lengths : List ℕ
   pub out : List ℕ
 
-abbrev pub lends : (productive cost lengths out : List ℕ) → Lends
-lends productive cost lengths out = record { productive = productive; cost = cost; lengths = lengths; out = out }
+abbrev pub lends : (cost lengths out : List ℕ) → Lends
+lends cost lengths out = record { cost = cost; lengths = lengths; out = out }
 
 -- 7: a lent table is not of its exact length; 9: the rule's number is R or more
 abbrev pub sentenceDue : Flat → ℕ → Lends → Outcome (Unit {0})
 sentenceDue g r m =
-    unlessDue g (unless (rowWrong (g .rules) (m .productive) || (numbersWrong (g .rules) (m .cost) || numbersWrong (g .rules) (m .lengths))) 7 (unless (leb (g .rules) r) 9 (answers tt)))
+    unlessDue g (unless (numbersWrong (g .rules) (m .cost) || numbersWrong (g .rules) (m .lengths)) 7 (unless (leb (g .rules) r) 9 (answers tt)))
 
 -- a refusal answers its number, and the output is untouched
 pub record Refuses (n : ℕ) (out : List ℕ) (said : Outcome ℕ) (out′ : List ℕ) : Type 0 where
@@ -63,12 +62,10 @@ pub record Says (g : Flat) (c : Costs) (r : ℕ) (out : List ℕ) (said : Outcom
 
 -- the working tables hold their final values, whatever is said
 pub record Sentenced (g : Flat) (r : ℕ) (out : List ℕ) (said : Outcome ℕ) (after : Lends) : Type 0 where
-  pub productive : ProductiveDefined g (after .productive)
   pub cost : CostDefined g (after .cost)
   pub lengths : LengthsDefined g (costsOf (after .cost)) (after .lengths)
   pub says : Says g (costsOf (after .cost)) r out said (after .out)
 
 -- the promise
-abbrev pub MinSentence : Flat → ℕ → (productive cost lengths out : List ℕ) → Answer → (productive′ cost′ lengths′ out′ : List ℕ) → Type 0
-MinSentence g r productive cost lengths out a productive′ cost′ lengths′ out′ =
-    Call (sentenceDue g r (lends productive cost lengths out)) (Sentenced g r out) (lends productive cost lengths out) (lengthIs a) (lends productive′ cost′ lengths′ out′)
+abbrev pub MinSentence : Flat → ℕ → (cost lengths out : List ℕ) → Answer → (cost′ lengths′ out′ : List ℕ) → Type 0
+MinSentence g r cost lengths out a cost′ lengths′ out′ = Call (sentenceDue g r (lends cost lengths out)) (Sentenced g r out) (lends cost lengths out) (lengthIs a) (lends cost′ lengths′ out′)

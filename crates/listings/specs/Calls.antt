@@ -15,9 +15,8 @@ use Rattle.grammar.specs.Flat.{Flat, denoted, price}
 use Rattle.grammar.specs.Outcome.{Outcome, answers, refused, unless}
 use Rattle.grammar.specs.Refusals.{unlessDue}
 use Rattle.tables.specs.Call.{Call}
-use Rattle.tables.specs.Sizes.{words}
 use Rattle.costs.specs.Lent.{costsOf}
-use Rattle.costs.specs.Defined.{ProductiveDefined, CostDefined}
+use Rattle.costs.specs.Defined.{CostDefined}
 use Rattle.sentences.specs.declared.Length.{Length as Answer}
 use Rattle.listings.specs.declared.Counted.{Counted}
 use Rattle.listings.specs.declared.Counted.the-variants.{Are, Refused as Not}
@@ -40,31 +39,29 @@ pub record CountsDefined (g : Flat) (c : Costs) (counts : List ℕ) : Type 0 whe
 
 -- the working tables of both calls
 pub record Work : Type 0 where
-  pub productive : List ℕ
   pub cost : List ℕ
   pub lengths : List ℕ
   pub counts : List ℕ
 
-abbrev pub work : (productive cost lengths counts : List ℕ) → Work
-work productive cost lengths counts = record { productive = productive; cost = cost; lengths = lengths; counts = counts }
+abbrev pub work : (cost lengths counts : List ℕ) → Work
+work cost lengths counts = record { cost = cost; lengths = lengths; counts = counts }
 
 -- they hold their final values
 pub record Final (g : Flat) (w : Work) : Type 0 where
-  pub productive : ProductiveDefined g (w .productive)
   pub cost : CostDefined g (w .cost)
   pub lengths : LengthsDefined g (costsOf (w .cost)) (w .lengths)
   pub counts : CountsDefined g (costsOf (w .cost)) (w .counts)
 
 -- 7: a lent table is not of its exact length; 9: the rule's number is R or more. By the lengths of the tables
-abbrev pub dueBy : Flat → ℕ → (productive cost lengths counts : ℕ) → Outcome (Unit {0})
-dueBy g r productive cost lengths counts =
+abbrev pub dueBy : Flat → ℕ → (cost lengths counts : ℕ) → Outcome (Unit {0})
+dueBy g r cost lengths counts =
     unlessDue g
-    (unless (not (eqb productive (words (g .rules))) || (not (eqb cost (g .rules)) || (not (eqb lengths (g .rules)) || not (eqb counts (g .rules))))) 7
+    (unless (not (eqb cost (g .rules)) || (not (eqb lengths (g .rules)) || not (eqb counts (g .rules)))) 7
     (unless (leb (g .rules) r) 9 (answers tt)))
 
 -- the same of the tables
 abbrev pub allDue : Flat → ℕ → Work → Outcome (Unit {0})
-allDue g r w = dueBy g r (length (w .productive)) (length (w .cost)) (length (w .lengths)) (length (w .counts))
+allDue g r w = dueBy g r (length (w .cost)) (length (w .lengths)) (length (w .counts))
 
 -- rule r has a cost and is not circular, `c` being the COST table: it has a list
 pub record Lists (g : Flat) (c : Costs) (r : ℕ) : Type 0 where
@@ -98,9 +95,9 @@ pub record CountDone (g : Flat) (r : ℕ) (said : Outcome ℕ) (after : Work) : 
   pub counts : Counts g (costsOf (after .cost)) r said
 
 -- the promise of the count
-abbrev pub CountMinSentences : Flat → ℕ → (productive cost lengths counts : List ℕ) → Counted → (productive′ cost′ lengths′ counts′ : List ℕ) → Type 0
-CountMinSentences g r productive cost lengths counts a productive′ cost′ lengths′ counts′ =
-    Call (allDue g r (work productive cost lengths counts)) (CountDone g r) (work productive cost lengths counts) (countedIs a) (work productive′ cost′ lengths′ counts′)
+abbrev pub CountMinSentences : Flat → ℕ → (cost lengths counts : List ℕ) → Counted → (cost′ lengths′ counts′ : List ℕ) → Type 0
+CountMinSentences g r cost lengths counts a cost′ lengths′ counts′ =
+    Call (allDue g r (work cost lengths counts)) (CountDone g r) (work cost lengths counts) (countedIs a) (work cost′ lengths′ counts′)
 
 -- what the call that writes is lent: the tables, and the output
 pub record Lends : Type 0 where
@@ -116,6 +113,6 @@ pub record NumberDone (g : Flat) (r k : ℕ) (out : List ℕ) (said : Outcome �
   pub numbers : Numbers g (costsOf (after .tables .cost)) r k out said (after .out)
 
 -- the promise of number k
-abbrev pub MinSentenceAt : Flat → ℕ → ℕ → (productive cost lengths counts out : List ℕ) → Answer → (productive′ cost′ lengths′ counts′ out′ : List ℕ) → Type 0
-MinSentenceAt g r k productive cost lengths counts out a productive′ cost′ lengths′ counts′ out′ =
-    Call (allDue g r (work productive cost lengths counts)) (NumberDone g r k out) (lends (work productive cost lengths counts) out) (lengthIs a) (lends (work productive′ cost′ lengths′ counts′) out′)
+abbrev pub MinSentenceAt : Flat → ℕ → ℕ → (cost lengths counts out : List ℕ) → Answer → (cost′ lengths′ counts′ out′ : List ℕ) → Type 0
+MinSentenceAt g r k cost lengths counts out a cost′ lengths′ counts′ out′ =
+    Call (allDue g r (work cost lengths counts)) (NumberDone g r k out) (lends (work cost lengths counts) out) (lengthIs a) (lends (work cost′ lengths′ counts′) out′)

@@ -1,4 +1,5 @@
 // Number k of a rule: found by turning the places of its cheapest productions, measured, and written.
+use costs::inner::add;
 use costs::inner::entry_at;
 use grammar::inner::start_at;
 use grammar::inner::wide;
@@ -6,7 +7,6 @@ use odometer::inner::Turned;
 use odometer::inner::show;
 use sentences::inner::choices::cheapest_from;
 use sentences::inner::expansion::expand_rule;
-use sentences::inner::lengths::add;
 ghost use mathlib.Core.Path.{_≡_};
 ghost use Prim.Native.Nat.{min};
 ghost use lib.ListN.{length};
@@ -73,7 +73,7 @@ fn find(
     }
 }
 
-// The token count of what the symbols from a up to e stand for with the choices `todo`, 65536 if above 65535.
+// The token count of what the symbols from a up to e stand for with the choices `todo`, long if above 65535.
 fn length_production(
     rules: u16,
     owners: &[u16],
@@ -129,7 +129,7 @@ fn length_production(
     n
 }
 
-// The token count of number k of rule r, 65536 if above 65535.
+// The token count of number k of rule r, long if above 65535.
 pub fn length_rule(
     rules: u16,
     owners: &[u16],

@@ -6,6 +6,7 @@ use mathlib.Core.Path.{_≡_}
 use Prim.Native.Nat.{ℕ, _≤_, _<_}
 use lib.Dec.{eqb, leb}
 use lib.ListN.{length, getD}
+use Rattle.theory.specs.Entries.{costMax, lengthMax, countMax, countNone}
 use Rattle.theory.specs.Definitions.{Sentence, costOf, Productive}
 use Rattle.theory.specs.Visits.{Costs}
 use Rattle.theory.specs.Cheapest.{Circular}
@@ -30,7 +31,7 @@ countedIs (Not n) = refused n
 
 -- counts: a number for each rule, 65537 for none known; none is known outside the rules
 unfoldable pub countsOf : List ℕ → Costs
-countsOf ws = λ r. getD ws r 65537
+countsOf ws = λ r. getD ws r countNone
 
 -- each entry is the count of its rule, 65536 for more than 65535, 65537 where the rule is circular or has no cost
 pub record CountsDefined (g : Flat) (c : Costs) (counts : List ℕ) : Type 0 where
@@ -65,29 +66,29 @@ allDue g r w = dueBy g r (length (w .cost)) (length (w .lengths)) (length (w .co
 
 -- rule r has a cost and is not circular, `c` being the COST table: it has a list
 pub record Lists (g : Flat) (c : Costs) (r : ℕ) : Type 0 where
-  pub priced : c r ≤ 65535
+  pub priced : c r ≤ costMax
   pub straight : Circular (denoted g) (price g) c r → ⊥
 
 -- the count, `c` being the COST table:
 -- 12 if the rule has no sentence, 13 if it has one but none costs 65535 or less, 14 if it is circular, 16 if there are more than 65535
 pub record Counts (g : Flat) (c : Costs) (r : ℕ) (said : Outcome ℕ) : Type 0 where
   pub none : (Productive (denoted g) r → ⊥) → said ≡ refused 12
-  pub dear : Productive (denoted g) r → ((w : List ℕ) → Sentence (denoted g) r w → 65536 ≤ costOf (price g) w) → said ≡ refused 13
+  pub dear : Productive (denoted g) r → ((w : List ℕ) → Sentence (denoted g) r w → costMax < costOf (price g) w) → said ≡ refused 13
   pub circular : Circular (denoted g) (price g) c r → said ≡ refused 14
-  pub many : Lists g c r → 65535 < length (listed (denoted g) (price g) c r) → said ≡ refused 16
-  pub is : Lists g c r → length (listed (denoted g) (price g) c r) ≤ 65535 → said ≡ answers (length (listed (denoted g) (price g) c r))
+  pub many : Lists g c r → countMax < length (listed (denoted g) (price g) c r) → said ≡ refused 16
+  pub is : Lists g c r → length (listed (denoted g) (price g) c r) ≤ countMax → said ≡ answers (length (listed (denoted g) (price g) c r))
 
 -- number k: 12 to 14 as above, 16 if there are more than 65535 or k is the count or more,
 -- 15 if the sentence is longer than 65535 or than the room lent, else the sentence
 pub record Numbers (g : Flat) (c : Costs) (r k : ℕ) (out : List ℕ) (said : Outcome ℕ) (out′ : List ℕ) : Type 0 where
   pub none : (Productive (denoted g) r → ⊥) → Refuses 12 out said out′
-  pub dear : Productive (denoted g) r → ((w : List ℕ) → Sentence (denoted g) r w → 65536 ≤ costOf (price g) w) → Refuses 13 out said out′
+  pub dear : Productive (denoted g) r → ((w : List ℕ) → Sentence (denoted g) r w → costMax < costOf (price g) w) → Refuses 13 out said out′
   pub circular : Circular (denoted g) (price g) c r → Refuses 14 out said out′
-  pub past : Lists g c r → (65535 < length (listed (denoted g) (price g) c r)) ⊎ (length (listed (denoted g) (price g) c r) ≤ k) → Refuses 16 out said out′
-  pub long : Lists g c r → length (listed (denoted g) (price g) c r) ≤ 65535 → k < length (listed (denoted g) (price g) c r)
-      → (65535 < length (sentenceAt (denoted g) (price g) c r k)) ⊎ (length out < length (sentenceAt (denoted g) (price g) c r k)) → Refuses 15 out said out′
-  pub is : Lists g c r → length (listed (denoted g) (price g) c r) ≤ 65535 → k < length (listed (denoted g) (price g) c r)
-      → length (sentenceAt (denoted g) (price g) c r k) ≤ 65535 → length (sentenceAt (denoted g) (price g) c r k) ≤ length out → Writes (sentenceAt (denoted g) (price g) c r k) out said out′
+  pub past : Lists g c r → (countMax < length (listed (denoted g) (price g) c r)) ⊎ (length (listed (denoted g) (price g) c r) ≤ k) → Refuses 16 out said out′
+  pub long : Lists g c r → length (listed (denoted g) (price g) c r) ≤ countMax → k < length (listed (denoted g) (price g) c r)
+      → (lengthMax < length (sentenceAt (denoted g) (price g) c r k)) ⊎ (length out < length (sentenceAt (denoted g) (price g) c r k)) → Refuses 15 out said out′
+  pub is : Lists g c r → length (listed (denoted g) (price g) c r) ≤ countMax → k < length (listed (denoted g) (price g) c r)
+      → length (sentenceAt (denoted g) (price g) c r k) ≤ lengthMax → length (sentenceAt (denoted g) (price g) c r k) ≤ length out → Writes (sentenceAt (denoted g) (price g) c r k) out said out′
 
 -- the count call: the tables are final, whatever is said
 pub record CountDone (g : Flat) (r : ℕ) (said : Outcome ℕ) (after : Work) : Type 0 where

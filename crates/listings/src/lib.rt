@@ -10,11 +10,13 @@ ghost use Rattle.listings.specs.Calls.{CountMinSentences, MinSentenceAt}
 
 pub mod inner;
 
-// A rule's count entry: up to this the count of its cheapest sentences; there are more; the rule is circular or has no cost.
+// Counts: an entry up to this is how many cheapest sentences the rule has.
 pub const COUNT_MAX: u32 = 65535;
 
+// Counts: there are more than 65535.
 pub const COUNT_MANY: u32 = 65536;
 
+// Counts: the rule is circular or has no cost.
 pub const COUNT_NONE: u32 = 65537;
 
 // What the count of all cheapest sentences answers.

@@ -6,6 +6,7 @@ use mathlib.Core.Path.{_≡_}
 use Prim.Native.Nat.{ℕ, _≤_, _<_}
 use lib.Dec.{leb}
 use lib.ListN.{length, drop}
+use Rattle.theory.specs.Entries.{costMax, lengthMax}
 use Rattle.theory.specs.Definitions.{Sentence, costOf, Productive, Cost}
 use Rattle.theory.specs.Grammar.{rul}
 use Rattle.theory.specs.Sentences.{Grounded, Expands}
@@ -55,10 +56,10 @@ pub record Writes (w out : List ℕ) (said : Outcome ℕ) (out′ : List ℕ) : 
 -- 15 if its sentence is longer than 65535 or than the room lent, else the sentence, each rule replaced by its first choice
 pub record Says (g : Flat) (c : Costs) (r : ℕ) (out : List ℕ) (said : Outcome ℕ) (out′ : List ℕ) : Type 0 where
   pub none : (Productive (denoted g) r → ⊥) → Refuses 12 out said out′
-  pub dear : Productive (denoted g) r → ((w : List ℕ) → Sentence (denoted g) r w → 65536 ≤ costOf (price g) w) → Refuses 13 out said out′
-  pub circular : (n : ℕ) → n ≤ 65535 → Cost (denoted g) (price g) r n → (Grounded (denoted g) (price g) c (rul r ∷ []) → ⊥) → Refuses 14 out said out′
-  pub long : (w : List ℕ) → Expands (denoted g) (price g) c (rul r ∷ []) w → (65535 < length w) ⊎ (length out < length w) → Refuses 15 out said out′
-  pub is : (w : List ℕ) → Expands (denoted g) (price g) c (rul r ∷ []) w → length w ≤ 65535 → length w ≤ length out → Writes w out said out′
+  pub dear : Productive (denoted g) r → ((w : List ℕ) → Sentence (denoted g) r w → costMax < costOf (price g) w) → Refuses 13 out said out′
+  pub circular : (n : ℕ) → n ≤ costMax → Cost (denoted g) (price g) r n → (Grounded (denoted g) (price g) c (rul r ∷ []) → ⊥) → Refuses 14 out said out′
+  pub long : (w : List ℕ) → Expands (denoted g) (price g) c (rul r ∷ []) w → (lengthMax < length w) ⊎ (length out < length w) → Refuses 15 out said out′
+  pub is : (w : List ℕ) → Expands (denoted g) (price g) c (rul r ∷ []) w → length w ≤ lengthMax → length w ≤ length out → Writes w out said out′
 
 -- the working tables hold their final values, whatever is said
 pub record Sentenced (g : Flat) (r : ℕ) (out : List ℕ) (said : Outcome ℕ) (after : Lends) : Type 0 where

@@ -10,11 +10,13 @@ ghost use Rattle.sentences.specs.Query.{MinSentence};
 
 pub mod inner;
 
-// A rule's length entry: up to this the token count of its sentence; that is longer; the rule is ungrounded or has no cost.
+// Lengths: an entry up to this is the token count of the rule's sentence.
 pub const LENGTH_MAX: u32 = 65535;
 
+// Lengths: the sentence is longer than 65535.
 pub const LENGTH_LONG: u32 = 65536;
 
+// Lengths: the rule is ungrounded or has no cost.
 pub const LENGTH_NONE: u32 = 65537;
 
 // What the sentence call answers.

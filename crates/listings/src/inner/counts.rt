@@ -9,6 +9,7 @@ use grammar::inner::wide;
 use sentences::inner::choices::cheapest_from;
 ghost use mathlib.Core.Path.{_≡_};
 ghost use Prim.Native.Nat.{_*_, _≤_, min};
+ghost use Rattle.theory.specs.Entries.{countMany};
 ghost use Rattle.grammar.specs.Flat.{flat};
 ghost use Rattle.costs.specs.Lent.{costsOf};
 ghost use Rattle.listings.specs.Calls.{CountsDefined};
@@ -16,8 +17,8 @@ ghost use Rattle.listings.specs.Counting.{CountFillable, RuleCountable, 
 
 // A product of two counts, many if it is above 65535.
 fn times(n: u32, x: u32) -> u32
-    requires { ⌜ (n ≤ 65536) × (x ≤ 65536) ⌝ }
-    ensures { λ r. ⌜ r ≡ min (n * x) 65536 ⌝ }
+    requires { ⌜ (n ≤ countMany) × (x ≤ countMany) ⌝ }
+    ensures { λ r. ⌜ r ≡ min (n * x) countMany ⌝ }
 {
     let product = (n as u64) * (x as u64);
     if product <= COUNT_MAX as u64 {

@@ -1,5 +1,5 @@
 -- Demand 2 for sentences, on every grammar that the crate can build: where the source returns, the length fits and no used production has the place that document 01 names, its result is ours.
-use mathlib.Core.List.{List, [], _∷_, _++_, List·Memᴰ, List·Memᴰ·head, List·Memᴰ·cases-cons, List·Memᴰ·not-nil, Memᴰ·append-right}
+use mathlib.Core.List.{List, [], _∷_, List·Memᴰ, List·Memᴰ·head, List·Memᴰ·cases-cons, List·Memᴰ·not-nil, Memᴰ·append-right}
 use mathlib.Core.Bool.{false, false≢true}
 use mathlib.Core.Logic.{inl, inr}
 use mathlib.Core.Path.{_≡_, refl, sym, ap, _∙_, subst}
@@ -7,11 +7,11 @@ use Prim.Native.Nat.{ℕ, zero, suc, _≤_, _<_}
 use native.Mathlib.Omega.{arith}
 use lib.ListN.{length}
 use Rattle.theory.specs.Below.{some}
-use Rattle.theory.specs.Grammar.{tok, rul, Form}
+use Rattle.theory.specs.Grammar.{tok, rul}
 use Rattle.theory.specs.Sentences.{Choice}
 use Rattle.theory.specs.Visits.{Costs}
 use Rattle.source.specs.Costs.{start, Returns as CostsReturn}
-use Rattle.source.specs.Sentence.{Returns, NoPlace, Uses, first, inner, Place}
+use Rattle.source.specs.Sentence.{Returns, NoPlace, first, inner}
 use Rattle.source.proofs.Running.{stuck-never, sentence-return}
 use Rattle.source.proofs.Sentence.{sentence-same}
 use Rattle.grammar.specs.Flat.{Flat, flat, at, denoted, price}

@@ -2,7 +2,6 @@ use mathlib.Core.Path.{_≡_}
 use Prim.Native.Nat.{_≤_, _-_}
 use lib.ListN.{length}
 use borrow.Author.Needs.{needs}
-use native.Mathlib.Omega.{arith}
 use Rattle.replay.proofs.say_rules.Statement.{statement}
 use Rattle.replay.proofs.say_rules.Tie as tie
 

@@ -1,4 +1,9 @@
 // A job below the public call: one production's step of a kind, where the job stands after it, visits one after another.
+use crate::JOB_COST;
+use crate::JOB_FIRST;
+use crate::JOB_FOLLOW_CORRECTED;
+use crate::JOB_FOLLOW_CRATE;
+use crate::JOB_PRODUCTIVE;
 use crate::Job;
 use crate::Sliced;
 use costs::inner::cost_step;
@@ -19,7 +24,7 @@ ghost use Rattle.grammar.specs.Flat.{flat};
 ghost use Rattle.jobs.specs.Kinds.{tables, kindOf, kindWrong, Visit, Ready};
 ghost use Rattle.jobs.specs.Calls.{progress, Workable, SliceOf};
 
-// Production p's step: 0 FIRST and EMPTY, 1 and 2 FOLLOW by mode, 3 PRODUCTIVE, else COST.
+// Production p's step in the tables of the kind.
 fn step(
     kind: u16,
     rules: u16,
@@ -38,17 +43,17 @@ fn step(
     requires { ⌜ Ready (kindOf kind (tables (now first) (now empty) (now follow) (now productive) (now cost) (now reached))) (flat rules (now owners) (now starts) (now symbols) (now costs)) p (tables (now first) (now empty) (now follow) (now productive) (now cost) (now reached)) ⌝ }
     ensures { λ r. ⌜ Visit (kindOf kind (tables (now (first .entry)) (now (empty .entry)) (now (follow .entry)) (now (productive .entry)) (now (cost .entry)) (now (reached .entry)))) (flat rules (now (owners .entry)) (now (starts .entry)) (now (symbols .entry)) (now (costs .entry))) p (tables (now (first .entry)) (now (empty .entry)) (now (follow .entry)) (now (productive .entry)) (now (cost .entry)) (now (reached .entry))) r (tables (now (first .exit)) (now (empty .exit)) (now (follow .exit)) (now (productive .exit)) (now (cost .exit)) (now (reached .entry))) ⌝ }
 {
-    if kind == 0 {
+    if kind == JOB_FIRST {
         return firsts::inner::step(rules, owners, starts, symbols, costs, p, first, empty);
     }
-    if (kind == 1) | (kind == 2) {
+    if (kind == JOB_FOLLOW_CRATE) | (kind == JOB_FOLLOW_CORRECTED) {
         return follows::inner::step(
             rules,
             owners,
             starts,
             symbols,
             costs,
-            kind == 2,
+            kind == JOB_FOLLOW_CORRECTED,
             false,
             p,
             follow,
@@ -57,7 +62,7 @@ fn step(
             reached,
         );
     }
-    if kind == 3 {
+    if kind == JOB_PRODUCTIVE {
         return productive_step(rules, owners, starts, symbols, costs, p, productive);
     }
     let mut read: [bool; 512] = [false; 512];
@@ -171,15 +176,15 @@ fn wrong(
     requires { ⌜ (rules ≤ 512) × (tokens ≤ 512) ⌝ }
     ensures { λ r. ⌜ r ≡ kindWrong (kindOf kind (tables (now (first .entry)) (now (empty .entry)) (now (follow .entry)) (now (productive .entry)) (now (cost .entry)) (now (reached .entry)))) rules tokens (tables (now (first .entry)) (now (empty .entry)) (now (follow .entry)) (now (productive .entry)) (now (cost .entry)) (now (reached .entry))) ⌝ }
 {
-    if kind == 0 {
+    if kind == JOB_FIRST {
         return table_wrong(rules, tokens, first) | row_wrong(rules, empty);
     }
-    if (kind == 1) | (kind == 2) {
+    if (kind == JOB_FOLLOW_CRATE) | (kind == JOB_FOLLOW_CORRECTED) {
         return table_wrong(rules, tokens, follow)
             | (table_wrong(rules, tokens, first)
                 | (row_wrong(rules, empty) | row_wrong(rules, reached)));
     }
-    if kind == 3 {
+    if kind == JOB_PRODUCTIVE {
         return row_wrong(rules, productive);
     }
     numbers_wrong(rules, cost)
@@ -218,7 +223,7 @@ pub fn sliced(
     };
     let kind = job.kind;
     let next = job.next.0;
-    if (4 < kind) | (owners.len() <= wide(next)) {
+    if (JOB_COST < kind) | (owners.len() <= wide(next)) {
         return Left {
             job: job,
             said: Sliced::Refused(17),

@@ -6,8 +6,23 @@ ghost use Rattle.jobs.specs.Calls.{SliceOf};
 
 pub mod inner;
 
-// A job: its table (0 FIRST, 1 and 2 FOLLOW by mode, 3 PRODUCTIVE, 4 COST), the next production, whether this round
-// changed anything, and whether it is done.
+// The kind of a job that fills FIRST and EMPTY.
+pub const JOB_FIRST: u16 = 0;
+
+// The kind of one that fills FOLLOW in mode 1.
+pub const JOB_FOLLOW_CRATE: u16 = 1;
+
+// The kind of one that fills FOLLOW in mode 2.
+pub const JOB_FOLLOW_CORRECTED: u16 = 2;
+
+// The kind of one that fills PRODUCTIVE.
+pub const JOB_PRODUCTIVE: u16 = 3;
+
+// The kind of one that fills COST; there is none above it.
+pub const JOB_COST: u16 = 4;
+
+// A job: its table, by the kinds above, the next production, whether this round changed anything, and whether it is
+// done.
 pub struct Job {
     pub kind: u16,
     pub next: PIdx,

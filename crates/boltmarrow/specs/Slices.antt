@@ -1,7 +1,7 @@
 -- A slice as C sees it: the job as a record of numbers, the answer as a struct of a refusal and a value.
 use mathlib.Core.Bool.{Bool, true, false, not, cond}
 use mathlib.Core.Path.{_≡_}
-use Prim.Native.Nat.{ℕ, zero, suc}
+use Prim.Native.Nat.{ℕ}
 use lib.Dec.{eqb}
 use Rattle.grammar.specs.Flat.{Flat}
 use Rattle.jobs.specs.declared.Job.{Job as Inner}

@@ -3,19 +3,17 @@ use mathlib.Core.Bool.{Bool, true, false, cond, _||_}
 use mathlib.Core.List.{List}
 use mathlib.Core.Logic.{inl, inr}
 use mathlib.Core.Path.{_≡_, refl, sym, _∙_, ap, subst}
-use Prim.Native.Nat.{ℕ, _*_, _≤_, _<_}
+use Prim.Native.Nat.{ℕ, _*_, _<_}
 use native.Mathlib.Omega.{arith}
 use lib.Dec.{eqb, leb, ltb}
 use lib.ListN.{length}
 use borrow.Author.Tests.{eqb-true, ne-eqb, leb-false}
 use Rattle.theory.specs.Follow.{crate, corrected}
 use Rattle.theory.proofs.Bools.{or-split, or-none}
-use Rattle.theory.specs.Slices.{Progress, Slice}
+use Rattle.theory.specs.Slices.{Slice}
 use Rattle.grammar.specs.Flat.{Flat}
-use Rattle.grammar.specs.Outcome.{Outcome, answers, refused, unless}
+use Rattle.grammar.specs.Outcome.{answers, refused}
 use Rattle.grammar.specs.Production.{checkedIs, checkOf}
-use Rattle.grammar.specs.Refusals.{unlessDue}
-use Rattle.grammar.specs.Well.{WellFormed}
 use Rattle.grammar.specs.declared.Checked.{Checked}
 use Rattle.grammar.specs.declared.Checked.the-variants.{Well}
 use Rattle.grammar.proofs.Lowest.{after-well}

@@ -1,6 +1,5 @@
 -- Any two results that a slice's promise allows are equal: the answer, the job and every lent table.
 use mathlib.Core.Bool.{Bool, true, false}
-use mathlib.Core.List.{List}
 use mathlib.Core.Path.{_≡_, refl, sym, _∙_, ap, ap₂}
 use Prim.Native.Nat.{ℕ}
 use lib.ListN.{length}

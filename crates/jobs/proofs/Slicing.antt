@@ -1,23 +1,26 @@
 -- Slices one after another on lent tables: a done job has left the fill's tables, and when a job is done.
-use mathlib.Core.Bool.{Bool, true, false, cond}
-use mathlib.Core.List.{List, _∷_}
-use mathlib.Core.Path.{_≡_, refl, sym, _∙_, ap, subst}
+use mathlib.Core.Bool.{Bool, true}
+use mathlib.Core.Path.{_≡_, sym, _∙_, ap, subst}
 use Prim.Native.Nat.{ℕ, _+_, _*_, _≤_, _<_}
-use native.Mathlib.Omega.{arith}
-use lib.ListN.{length}
-use Rattle.theory.specs.Fills.{Moves, Settles}
+use Rattle.theory.specs.Fills.{Settles}
 use Rattle.theory.specs.Rounds.{AnyOrder}
 use Rattle.theory.proofs.Fills.{Filling}
-use Rattle.theory.specs.Slices.{Progress, fresh, Slice, full, over, visit, Slices, none, more}
+use Rattle.theory.specs.Slices.{Progress, fresh, Slices}
 use Rattle.theory.proofs.Slices.{Sliceable, done-settles, done-by, slices-hold}
 use Rattle.tables.specs.Call.{Stepped}
 use Rattle.tables.proofs.Stepping.{Stepping}
-use Rattle.jobs.specs.Kinds.{Tables, tables, Made}
+use Rattle.jobs.specs.Kinds.{Tables, Made}
 
 -- a part of the tables, seen and put back
 pub record Lens {A : Type 0} (get : Tables → A) (put : Tables → A → Tables) : Type 0 where
   pub same : (t : Tables) → t ≡ put t (get t)
   pub twice : (t : Tables) (x y : A) → put (put t x) y ≡ put t y
+
+-- what slices of n visits together come to on the part: if the job is done no visit changes it, when it is done, and what it shows is true
+pub record Comes {A S : Type 0} (step : ℕ → S → S) (see : A → S) (Keeps : A → A → Type 0) (P bound : ℕ) (Holds : S → Type 0) (zeros : A) (n : ℕ) (i : Progress) (d : A) : Type 0 where
+  pub settles : i .done ≡ true → Settles step see Keeps P zeros d
+  pub ends : (bound + 1) * P ≤ n → i .done ≡ true
+  pub holds : Holds (see d)
 
 module _ {A S : Type 0} {step : ℕ → S → S} {see : A → S} {Keeps : A → A → Type 0} {P : ℕ} {Held : A → Type 0} {Became : ℕ → A → A → Type 0} (get : Tables → A) (put : Tables → A → Tables) (l : Lens get put) (k : Stepping step see Keeps P Held Became) where
   -- the part is kept so, and the rest is as it was
@@ -58,11 +61,9 @@ module _ {A S : Type 0} {step : ℕ → S → S} {see : A → S} {Keeps : A → 
     part-done : i .done ≡ true → Settles step (λ t. see (get t)) Kept P start d
     part-done = done-settles sliceable any start (subst Held (sym is) begins) (ap see is ∙ shown) (subst (λ z. k .filling .Inv (see z)) (sym is) inv) some s
 
-    pub part-settles : i .done ≡ true → Settles step see Keeps P zeros (get d)
-    part-settles e = let x = part-done e in subst (λ z. Settles step see Keeps P z (get d)) is (record { visits = x .visits; valid = x .valid; ran = x .ran; keeps = x .keeps .step; rest = x .rest })
-
-    pub part-by : (bound + 1) * P ≤ n → i .done ≡ true
-    part-by = done-by sliceable any start (subst Held (sym is) begins) (ap see is ∙ shown) (subst (λ z. k .filling .Inv (see z)) (sym is) inv) some s
-
-    pub part-holds : Holds (see (get d))
-    part-holds = slices-hold sliceable any start (subst Held (sym is) begins) (ap see is ∙ shown) (subst (λ z. k .filling .Inv (see z)) (sym is) inv) some s
+    pub part-comes : Comes step see Keeps P bound Holds zeros n i (get d)
+    part-comes = record {
+      settles = λ e. let x = part-done e in subst (λ z. Settles step see Keeps P z (get d)) is (record { visits = x .visits; valid = x .valid; ran = x .ran; keeps = x .keeps .step; rest = x .rest });
+      ends = done-by sliceable any start (subst Held (sym is) begins) (ap see is ∙ shown) (subst (λ z. k .filling .Inv (see z)) (sym is) inv) some s;
+      holds = slices-hold sliceable any start (subst Held (sym is) begins) (ap see is ∙ shown) (subst (λ z. k .filling .Inv (see z)) (sym is) inv) some s;
+    }

@@ -1,7 +1,5 @@
 -- Visits one after another: where the job stands after each, and what the loop over them owes.
 use mathlib.Core.Bool.{Bool, true, false, not, cond, _&&_, _||_}
-use mathlib.Core.List.{List}
-use mathlib.Core.Logic.{_⊎_, inl, inr}
 use mathlib.Core.Path.{_≡_, refl, sym, _∙_, ap, subst}
 use Prim.Native.Nat.{ℕ, suc, _+_, _≤_, _<_}
 use native.Mathlib.Numerals.{add-one}
@@ -9,10 +7,10 @@ use native.Mathlib.Nat.{le-antisymm}
 use native.Mathlib.Omega.{arith}
 use lib.Dec.{eqb, ltb}
 use lib.ListN.{length}
-use borrow.Author.Tests.{eq-eqb, ne-eqb, ltb-true, ltb-false, not-true, not-false}
-use Rattle.theory.specs.Follow.{Mode, crate, corrected}
+use borrow.Author.Tests.{eq-eqb, ne-eqb, ltb-true, ltb-false, not-true}
+use Rattle.theory.specs.Follow.{crate, corrected}
 use Rattle.theory.proofs.Bools.{and-split}
-use Rattle.theory.specs.Slices.{Progress, ended, after, Slice, full}
+use Rattle.theory.specs.Slices.{Progress, after, Slice, full}
 use Rattle.theory.proofs.Slices.{slice-append, slice-stop, after-below}
 use Rattle.grammar.specs.Flat.{Flat}
 use Rattle.jobs.specs.Kinds.{Tables, readOf, Kind, first, follow, productive, cost, kindOf, Held, Became, Visit, Ready}

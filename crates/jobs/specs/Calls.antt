@@ -1,8 +1,7 @@
 -- A slice of a job: its refusals in order, and what it makes of the job and of the lent tables.
 use mathlib.Core.Bool.{Bool, _||_}
-use mathlib.Core.List.{List}
 use mathlib.Core.Path.{_≡_}
-use Prim.Native.Nat.{ℕ, _≤_, _<_}
+use Prim.Native.Nat.{ℕ, _<_}
 use lib.Dec.{leb, ltb}
 use lib.ListN.{length}
 use Rattle.theory.specs.Slices.{Progress, Slice}

@@ -1,5 +1,5 @@
 -- Slices, for any kind of table: their visits, that a done job has left the defined table, and when a job is done.
-use mathlib.Core.Bool.{Bool, true, false, not, cond, _||_, false≢true, true≢false}
+use mathlib.Core.Bool.{Bool, true, false, not, cond, _||_, true≢false}
 use mathlib.Core.List.{List, [], _∷_, _++_, List·Memᴰ, List·Memᴰ·head, List·Memᴰ·tail, List·Memᴰ·not-nil}
 use mathlib.Core.Logic.{_⊎_, inl, inr}
 use mathlib.Core.Path.{_≡_, refl, sym, _∙_, ap, subst}
@@ -8,7 +8,7 @@ use native.Mathlib.Decide.{decLe}
 use native.Mathlib.Nat.{mul-le-mul-right}
 use native.Mathlib.Omega.{arith}
 use lib.Dec.{eqb}
-use lib.ListN.{length, length-append}
+use lib.ListN.{length}
 use borrow.Author.Tests.{eqb-true, eqb-false}
 use Rattle.theory.specs.Fills.{Moves, Settles, turns}
 use Rattle.theory.specs.Rounds.{run, Valid, Round, AllRounds, rounds, Rest, AnyOrder}
@@ -277,20 +277,9 @@ module _ {M S : Type 0} {step : ℕ → S → S} {view : M → S} {Keeps : M →
     }
 
     module _ (some : 0 < P) {t : ℕ} {i : Progress} {d : M} (s : Slices Visit P t fresh start i d) where
-      -- what the memory keeps
-      pub slices-keep : Keeps start d
-      slices-keep = elim (slices-on s (begun some)) [ inl u ↦ f .filling .then start (u .begin) d (u .keeps) (u .part .keeps) | inr w ↦ w .settles .keeps ]
-
       -- a done job has made visits until none would change anything
       pub done-settles : i .done ≡ true → Settles step view Keeps P start d
       done-settles e = elim (slices-on s (begun some)) [ inl u ↦ absurd (true≢false (sym e ∙ u .going)) | inr w ↦ w .settles ]
-
-      -- so it has left the defined table
-      pub done-exact : i .done ≡ true → Exact (view d)
-      done-exact e =
-          let k = done-settles e in
-          let q : view d ≡ run step (k .visits) cleared = k .ran ∙ ap (run step (k .visits)) shown in
-          rw q (any .exact (k .visits) (k .valid) (rw q at (k .rest)))
 
       -- at every moment what the memory shows is true
       pub slices-hold : Holds (view d)

@@ -116,8 +116,8 @@ typedef struct {
 
 /* a job, which fills a table by slices: what it fills (one of the kinds below), the production that
  * the next visit is of, whether this round over the productions changed anything, and whether the job
- * is done; 0 for no, any other number for yes. A slice that makes
- * visits leaves 0 or 1 there. A new job has its kind and is 0 otherwise. */
+ * is done; 0 for no, any other number for yes, and a slice that makes visits leaves 0 or 1. A new job
+ * has its kind and is 0 otherwise. */
 typedef struct {
     uint16_t kind;
     boltmarrow_pidx next;

@@ -35,8 +35,8 @@
  * Stack. boltmarrow_min_sentence takes up to 110 KB: 208 bytes for each level of rules in rules, of
  * which there are at most 512. boltmarrow_count_min_sentences takes up to 170 KB, 276 bytes a level,
  * and boltmarrow_min_sentence_at up to 280 KB, 512 bytes a level. boltmarrow_has_path,
- * boltmarrow_reached_fill and boltmarrow_follow_fill take 12 KB, every other call at most 1 KB. No
- * call takes other memory than its stack and its lists.
+ * boltmarrow_reached_fill and boltmarrow_follow_fill take 12 KB, boltmarrow_slice takes 1.25 KB, every
+ * other call at most 1 KB. No call takes other memory than its stack and its lists.
  *
  * Refusals:
  *   1  R, T, P or N outside its limits (R 2..512, T 1..512, P 2..4096, N 1..16384)

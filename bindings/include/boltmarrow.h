@@ -232,7 +232,9 @@ boltmarrow_answer boltmarrow_follow_fill(BOLTMARROW_GRAMMAR, uint16_t mode, uint
  * its word, also one that no slice left so. Only the tables of the kind are looked at: FIRST and EMPTY;
  * FOLLOW, which is changed, FIRST, EMPTY and the reached row, which are read; PRODUCTIVE; COST. The
  * others may be of any length, 0 too. Refusals 1 to 6, 17, then 7, also where no visit is asked for;
- * a refusal, and a slice without a visit, leave the record as found. */
+ * a refusal, and a slice without a visit, leave the record as found. Each slice checks the grammar
+ * first, so lend it hundreds of visits; and a job goes up in every round, where a fill goes up and
+ * down, so it may make more rounds. */
 boltmarrow_answer boltmarrow_slice(boltmarrow_job *job, BOLTMARROW_GRAMMAR, uint32_t n,
                                    uint32_t *first, size_t first_len, uint32_t *empty,
                                    size_t empty_len, uint32_t *follow, size_t follow_len,

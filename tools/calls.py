@@ -7,7 +7,7 @@ from typing import NamedTuple
 
 import plain
 from block_text import blocks, text_of
-from plain import MOST, Refused
+from plain import Refused
 
 LISTS = 4096, 4097, 16384, 512  # the lengths of the lists that the file reader takes
 
@@ -157,7 +157,7 @@ def productive_fill(g, row):
 
 def cost_clear(g, cost):
     need(g, [(cost, cost_length)])
-    clear(cost, MOST + 1)
+    clear(cost, plain.UNKNOWN)
     return [0]
 
 
@@ -172,9 +172,8 @@ def cost_fill(g, cost):
     return [0]
 
 
-def min_sentence_cost(g, rule, productive, cost):
-    need(g, [(productive, row_length), (cost, cost_length)], rules=[rule])
-    productive_fill(g, productive)
+def min_sentence_cost(g, rule, cost):
+    need(g, [(cost, cost_length)], rules=[rule])
     cost_fill(g, cost)
     return [plain.sentence_cost(g, rule)]
 
@@ -215,9 +214,8 @@ def follow_fill(g, mode, follow, first, empty, reached):
     return [0]
 
 
-def min_sentence(g, rule, productive, cost, lengths, out):
-    need(g, [(productive, row_length), (cost, cost_length), (lengths, cost_length)], rules=[rule])
-    productive_fill(g, productive)
+def min_sentence(g, rule, cost, lengths, out):
+    need(g, [(cost, cost_length), (lengths, cost_length)], rules=[rule])
     cost_fill(g, cost)
     lengths[:] = plain.lengths(g)
     sentence = plain.sentence(g, rule, len(out))
@@ -225,23 +223,21 @@ def min_sentence(g, rule, productive, cost, lengths, out):
     return [len(sentence)]
 
 
-def need_lists(g, rule, productive, cost, lengths, counts):
+def need_lists(g, rule, cost, lengths, counts):
     """The refusals before the work of the two calls on all cheapest sentences, and then their tables."""
-    entries = [(table, cost_length) for table in (cost, lengths, counts)]
-    need(g, [(productive, row_length), *entries], rules=[rule])
-    productive_fill(g, productive)
+    need(g, [(table, cost_length) for table in (cost, lengths, counts)], rules=[rule])
     cost_fill(g, cost)
     lengths[:] = plain.lengths(g)
     counts[:] = plain.counts(g)
 
 
-def count_min_sentences(g, rule, productive, cost, lengths, counts):
-    need_lists(g, rule, productive, cost, lengths, counts)
+def count_min_sentences(g, rule, cost, lengths, counts):
+    need_lists(g, rule, cost, lengths, counts)
     return [plain.sentence_count(g, rule)]
 
 
-def min_sentence_at(g, rule, k, productive, cost, lengths, counts, out):
-    need_lists(g, rule, productive, cost, lengths, counts)
+def min_sentence_at(g, rule, k, cost, lengths, counts, out):
+    need_lists(g, rule, cost, lengths, counts)
     sentence = plain.sentence_at(g, rule, k, len(out))
     out[: len(sentence)] = sentence
     return [len(sentence)]
@@ -285,14 +281,14 @@ CALLS = {
     "cost_clear": Call("entries", (7,), 1, cost_clear),
     "cost_visit": Call("prod entries", (7, 11), 1, cost_visit),
     "cost_fill": Call("entries", (7,), 1, cost_fill),
-    "min_sentence_cost": Call("rule row entries", (7, 9, 12, 13), 1, min_sentence_cost),
+    "min_sentence_cost": Call("rule entries", (7, 9, 12, 13), 1, min_sentence_cost),
     "reached_fill": Call("reached", (7,), 1, reached_fill),
     "follow_clear": Call("marks", (7,), 1, follow_clear),
     "follow_visit": Call("mode prod marks marks row reached", (7, 8, 11), 1, follow_visit),
     "follow_fill": Call("mode marks marks row reached", (7, 8), 1, follow_fill),
-    "min_sentence": Call("rule row entries entries room", (7, 9, 12, 13, 14, 15), 1, min_sentence),
-    "count_min_sentences": Call("rule row entries entries counts", (7, 9, 12, 13, 14, 16), 1, count_min_sentences),
-    "min_sentence_at": Call("rule k row entries entries counts room", (7, 9, 12, 13, 14, 15, 16), 1, min_sentence_at),
+    "min_sentence": Call("rule entries entries room", (7, 9, 12, 13, 14, 15), 1, min_sentence),
+    "count_min_sentences": Call("rule entries entries counts", (7, 9, 12, 13, 14, 16), 1, count_min_sentences),
+    "min_sentence_at": Call("rule k entries entries counts room", (7, 9, 12, 13, 14, 15, 16), 1, min_sentence_at),
     "write_blocks": Call("version bytes", (24, 25, 26), 1, write_blocks),
     "read_blocks": Call("", (7, 20, 21, 22, 23, 25), 5, read_blocks),
 }

@@ -4,7 +4,7 @@
 
 A call's grammar is of a shape of tools/grammars.py, in one of four with further productions of rule 0; as it is or with
 refusals made due, one or two, or a list cut, lengthened, emptied or with an entry replaced. Tables hold anything, spare
-bits and entries above 65536 included, and may be of a wrong length; a reached row may be the finished one too, or that
+bits and entries above 65537 included, and may be of a wrong length; a reached row may be the finished one too, or that
 with a mark changed or spare bits set; numbers may be out of range, room short; of the calls on all cheapest sentences
 many grammars have equal choices, circles or some 65535 rows, and k is around the count. A block file is of either
 version and has what a file can have wrong; one that is written must be bin/blocks' own. The answer and every element of
@@ -24,13 +24,13 @@ sys.dont_write_bytecode = True
 import calls
 import grammars
 import plain
-from plain import MOST
+from plain import DEAR, MOST, UNKNOWN
 
 USUAL = 100_000
 BATCH = 1000
 WORD = (1 << 32) - 1
 LONGEST = 512 * 16  # the words of the largest table
-ENTRIES = 0, 1, 2, MOST - 2, MOST - 1, MOST, MOST + 1, MOST + 2, WORD
+ENTRIES = 0, 1, 2, MOST - 2, MOST - 1, MOST, DEAR, DEAR, UNKNOWN, UNKNOWN, UNKNOWN + 1, WORD
 
 # Shapes whose answers take the plain side some milliseconds or more are drawn less often.
 SLOW = ["long_sentences", "single_file", "many_rules", "wide_both", "wide_tokens"]
@@ -131,11 +131,11 @@ def any_reached(draw, g):
 
 
 def any_entries(draw, length):
-    """Costs, lengths or counts: none known, edges, or anything."""
+    """Costs, lengths or counts: none known, all dear, edges, or anything."""
     length = any_length(draw, length)
     kind = draw.randrange(5)
     if kind == 0:
-        return [MOST + 1] * length
+        return [draw.choice((DEAR, UNKNOWN))] * length
     if kind < 4:
         return [draw.choice(ENTRIES) for _ in range(length)]
     return [draw.choice((draw.randint(0, MOST), draw.getrandbits(32))) for _ in range(length)]

@@ -1,7 +1,7 @@
 #!/usr/bin/env python3
 """Document 01 once more, plain and slow: sets, recursion and whole numbers of any size; of document 02 the versions of
-the block file, several exports in one grammar, that in mode 2 of FOLLOW only productions of reached rules count, and
-all cheapest sentences. It is written from those texts, with the readings of their open points in docs/DECISIONS.md, and
+the block file, several exports in one grammar, that in mode 2 of FOLLOW only productions of reached rules count,
+all cheapest sentences, and entries of COST that tell dear from unknown. It is written from those texts, with the readings of their open points in docs/DECISIONS.md, and
 from no crate.
 
     tools/plain.py report FILE         the report of a block file; '-' stands for standard input
@@ -19,6 +19,8 @@ from typing import NamedTuple
 RULE = 32768
 VERSION = 32768  # what a version 2 file has added to its R field
 MOST = 65535
+DEAR = 65536
+UNKNOWN = 65537
 HEADING = "rule,empty,first,follow,cost"
 
 sys.setrecursionlimit(10000)
@@ -235,10 +237,10 @@ def least_costs(g):
 
 
 def costs(g):
-    """COST of each rule: at most 65535, or 65536."""
+    """COST of each rule: at most 65535, or 65536 if it has a sentence but none so cheap, or 65537 if it has none."""
     check(g)
     known = least_costs(g)
-    return [min(known.get(r, MOST + 1), MOST + 1) for r in range(g.rules)]
+    return [min(known[r], DEAR) if r in known else UNKNOWN for r in range(g.rules)]
 
 
 def known_costs(g):
@@ -434,7 +436,7 @@ def cleared(g):
     """Cleared tables: FIRST, EMPTY, FOLLOW, PRODUCTIVE, COST."""
     check(g)
     follow = [{g.eof}] + [set() for _ in range(1, g.rules)]
-    return [set() for _ in range(g.rules)], set(), follow, set(), [MOST + 1] * g.rules
+    return [set() for _ in range(g.rules)], set(), follow, set(), [UNKNOWN] * g.rules
 
 
 def visit_first(g, p, first, empty):
@@ -483,12 +485,14 @@ def visit_productive(g, p, productive):
 
 
 def visit_cost(g, p, cost):
-    """One visit of COST."""
+    """One visit of COST. An unknown part makes the sum unknown, and then nothing changes; otherwise a dear part, or a
+    total above 65535, makes it dear."""
     body, r = production(g, p), g.owners[p]
     before = cost[r]
     parts = [cost[s - RULE] if s >= RULE else g.costs[s] for s in body]
-    if max(parts, default=0) <= MOST and sum(parts) <= MOST:
-        cost[r] = min(cost[r], sum(parts))
+    if not any(part >= UNKNOWN for part in parts):
+        dear = DEAR in parts or sum(parts) > MOST
+        cost[r] = min(cost[r], DEAR if dear else sum(parts))
     return cost[r] != before
 
 

@@ -118,27 +118,27 @@ class Calls(unittest.TestCase):
         self.assertEqual((first, empty), ([16, 16, 20, 16], [16]))
 
     def test_sentence(self):
-        productive, cost, lengths, out = [0], [0] * 4, [0] * 4, [7, 7]
-        self.assertEqual(calls.answer("min_sentence", [G1, 0, productive, cost, lengths, out]), [0, 1])
-        self.assertEqual((productive, cost, lengths, out), ([15], [1, 1, 0, 0], [1, 1, 0, 0], [0, 7]))
+        cost, lengths, out = [0] * 4, [0] * 4, [7, 7]
+        self.assertEqual(calls.answer("min_sentence", [G1, 0, cost, lengths, out]), [0, 1])
+        self.assertEqual((cost, lengths, out), ([1, 1, 0, 0], [1, 1, 0, 0], [0, 7]))
 
     def test_room(self):
-        productive, cost, lengths = [0], [0] * 4, [0] * 4
-        self.assertEqual(calls.answer("min_sentence", [G1, 0, productive, cost, lengths, []]), [15, 0])
+        cost, lengths = [0] * 4, [0] * 4
+        self.assertEqual(calls.answer("min_sentence", [G1, 0, cost, lengths, []]), [15, 0])
         self.assertEqual(cost, [1, 1, 0, 0])
 
     def test_lists(self):
         # A: a; A: b
         g = plain.Grammar(2, [0, 1, 1], [0, 1, 2, 3], [plain.RULE + 1, 0, 1], [1] * 3)
-        tables = [9], [9] * 2, [9] * 2, [9] * 2
+        tables = [9] * 2, [9] * 2, [9] * 2
         self.assertEqual(calls.answer("count_min_sentences", [g, 1, *tables]), [0, 2])
-        self.assertEqual(tables, ([3], [1, 1], [1, 1], [2, 2]))
+        self.assertEqual(tables, ([1, 1], [1, 1], [2, 2]))
         out = [7, 7]
         self.assertEqual(calls.answer("min_sentence_at", [g, 0, 1, *tables, out]), [0, 1])
         self.assertEqual(out, [1, 7])
         for rule, k, room, number in (1, 2, 0, 16), (1, 65536, 2, 16), (1, 1, 0, 15), (2, 0, 2, 9):
             self.assertEqual(calls.answer("min_sentence_at", [g, rule, k, *tables, [7] * room]), [number, 0])
-        for at in range(4):
+        for at in range(3):
             wrong = [*tables[:at], tables[at] + [9], *tables[at + 1 :]]
             self.assertEqual(calls.answer("count_min_sentences", [g, 9, *wrong]), [7, 0])
             self.assertEqual(calls.answer("min_sentence_at", [g, 9, 9, *wrong, out]), [7, 0])

@@ -172,6 +172,20 @@ class Plain(unittest.TestCase):
         self.assertEqual(plain.sentence_cost(example("g5-either"), 1), 1)
         self.assertEqual((plain.costs(g6)[1], plain.sentence(g6, 1)), (1, [1]))
 
+    def test_dear_and_unknown(self):
+        self.assertEqual(plain.costs(example("g4")), [65537, 65537])
+        self.assertEqual(plain.costs(example("g5-dear")), [65536, 65536])
+        # start: A; A: B C; A: C B; A: a of cost 9
+        g = Grammar(4, [0, 1, 1, 1, 2, 3], [0, 1, 3, 5, 6, 7, 8], [RULE + 1, RULE + 2, RULE + 3, RULE + 3, RULE + 2, 0, 0, 0], [9, 1])
+        for p in 1, 2:
+            for a, b, c, changed, after in (
+                (65537, 65536, 65537, False, 65537), (70000, 65536, 70000, False, 70000), (5, 65538, 1, False, 5),
+                (65537, 65536, 1, True, 65536), (70000, 65535, 1, True, 65536), (65536, 65536, 1, False, 65536),
+                (65536, 65535, 0, True, 65535), (65535, 65536, 0, False, 65535),
+            ):
+                cost = [3, a, b, c]
+                self.assertEqual((plain.visit_cost(g, p, cost), cost), (changed, [3, after, b, c]))
+
     def test_dead_rules(self):
         g = example("dead")
         self.assertEqual(plain.reached(g), {0, 1, 2})
@@ -275,7 +289,7 @@ class Plain(unittest.TestCase):
                 self.assertEqual(plain.follows(g, 2), standing(g, 7))
                 paid = sentence_costs(g, 60)
                 self.assertEqual(plain.productives(g), {r for r, held in enumerate(paid) if held})
-                self.assertEqual(plain.costs(g), [min(held, default=65536) for held in paid])
+                self.assertEqual(plain.costs(g), [min(held, default=65537) for held in paid])
 
     def visits_settle(self, g, dice):
         first, empty, follow, productive, cost = plain.cleared(g)

@@ -111,8 +111,8 @@ class Case:
         takes = calls.CALLS[name].takes.split()
         lists = iter([self.b] if name == "rule_mark" else [self.a, self.b, self.c])
         given = iter(given)
-        kinds = {"marks": lists, "row": lists, "entries": lists, "room": iter([self.out])}
-        kinds["reached"] = kinds["counts"] = iter([self.d])
+        kinds = {"marks": lists, "row": lists, "entries": lists, "counts": lists, "room": iter([self.out])}
+        kinds["reached"] = iter([self.d])
         refusal, *values = calls.answer(name, [self.grammar, *(next(kinds.get(kind, given)) for kind in takes)])
         return [f"refused {refusal}"] if refusal else values
 

@@ -1,12 +1,13 @@
-/* Document 01 once more in C, with the file writer, the versions, the several exports, the reached rules and the lists
- * of cheapest sentences of document 02, plain and slow, to compare the library with. It is written from those texts,
+/* Document 01 once more in C, with the file writer, the versions, the several exports, the reached rules, the lists of
+ * cheapest sentences and the dear entries of document 02, plain and slow, to compare the library with. It is written from those texts,
  * with the readings of their open points in docs/DECISIONS.md, and from no crate. A call names an exported function and
  * holds what it is lent; `model` makes the call on those lists. */
 #include <stddef.h>
 #include <stdint.h>
 #include <string.h>
 
-enum { RULE = 32768, MOST = 65535, NONE = 65536, UNGROUNDED = 65537, MANY = 65536, CIRCULAR = 65537 };
+enum { RULE = 32768, MOST = 65535 };
+enum { DEAR = 65536, UNKNOWN = 65537, LONG_ONE = 65536, UNGROUNDED = 65537, MANY = 65536, CIRCULAR = 65537 };
 enum { VERSION_2 = 32768 }; /* what a version 2 file has added to its R field */
 
 typedef struct {
@@ -46,7 +47,7 @@ typedef enum {
 /* The tables that a call is lent, in order: T a row of tokens a rule, E one row of rules, C a number a rule. */
 enum { TABLES = 4 };
 static const char *const tables_of[OPS] = {"",  "",  "T", "E",  "TE", "TE", "TE",   "",     "E",   "E",    "E",   "C",
-                                           "C", "C", "EC", "E", "T",  "TTEE", "TTEE", "ECC", "ECCC", "ECCC", ""};
+                                           "C", "C", "C", "E", "T",  "TTEE", "TTEE", "CC", "CCC", "CCC", ""};
 
 typedef struct {
     op op;
@@ -174,21 +175,24 @@ static int visit_productive(const grammar *g, size_t p, uint32_t *productive) {
     return mark(productive, g->owners[p]);
 }
 
-/* A production's cost by the entries of a COST table; 65536 for none. */
+/* A production's sum by the entries of a COST table: an unknown part makes it unknown; otherwise a dear part, or a
+ * total above 65535, makes it dear. */
 static uint32_t price(const grammar *g, size_t p, const uint32_t *cost) {
     uint64_t sum = 0;
+    int dear = 0;
     for (size_t i = g->starts[p]; i < g->starts[p + 1]; i++) {
         uint16_t s = g->symbols[i];
         uint32_t one = s < RULE ? g->costs[s] : cost[s - RULE];
-        if (one > MOST) return NONE;
+        if (one >= UNKNOWN) return UNKNOWN;
+        dear |= one == DEAR;
         sum += one;
     }
-    return sum > MOST ? NONE : (uint32_t)sum;
+    return dear || sum > MOST ? DEAR : (uint32_t)sum;
 }
 
 static int visit_cost(const grammar *g, size_t p, uint32_t *cost) {
     uint32_t sum = price(g, p, cost), r = g->owners[p];
-    if (sum == NONE || sum >= cost[r]) return 0;
+    if (sum == UNKNOWN || sum >= cost[r]) return 0;
     cost[r] = sum;
     return 1;
 }
@@ -220,11 +224,19 @@ static void fill_productive(const grammar *g, uint32_t *productive) {
 }
 
 static void fill_cost(const grammar *g, uint32_t *cost) {
-    clear(cost, g->rules, NONE);
+    clear(cost, g->rules, UNKNOWN);
     for (int again = 1; again;) {
         again = 0;
         for (size_t p = 0; p < g->prods; p++) again |= visit_cost(g, p, cost);
     }
+}
+
+/* 12 for a rule without a sentence, by its own marks and not by COST; 13 for one with a sentence and no cost; or 0. */
+static uint32_t without_cost(const grammar *g, size_t rule, const uint32_t *cost) {
+    uint32_t productive[16];
+    fill_productive(g, productive);
+    if (!marked(productive, rule)) return 12;
+    return cost[rule] > MOST ? 13 : 0;
 }
 
 /* Whether `to` stands in some form that `from` derives in one or more steps. */
@@ -276,7 +288,7 @@ static uint32_t count(const grammar *g, size_t p, const uint32_t *lengths) {
         if (s >= RULE && lengths[s - RULE] == UNGROUNDED) return UNGROUNDED;
         sum += s < RULE ? 1 : lengths[s - RULE];
     }
-    return sum > MOST ? NONE : (uint32_t)sum;
+    return sum > MOST ? LONG_ONE : (uint32_t)sum;
 }
 
 static void fill_lengths(const grammar *g, const uint32_t *cost, uint32_t *lengths) {
@@ -307,12 +319,10 @@ static size_t expand(const grammar *g, size_t rule, const uint32_t *cost, const 
 
 static result sentence(call *c) {
     const grammar *g = &c->g;
-    uint32_t *productive = c->table[0], *cost = c->table[1], *lengths = c->table[2];
-    fill_productive(g, productive);
+    uint32_t *cost = c->table[0], *lengths = c->table[1];
     fill_cost(g, cost);
     fill_lengths(g, cost, lengths);
-    if (!marked(productive, c->rule)) return refused(12);
-    if (cost[c->rule] > MOST) return refused(13);
+    if (without_cost(g, c->rule, cost)) return refused(without_cost(g, c->rule, cost));
     if (lengths[c->rule] == UNGROUNDED) return refused(14);
     if (lengths[c->rule] > MOST || lengths[c->rule] > c->out_len) return refused(15);
     return answered(lengths[c->rule] ? (uint32_t)expand(g, c->rule, cost, lengths, c->out, 0) : 0);
@@ -375,7 +385,7 @@ static uint32_t rows_of(const grammar *g, size_t p, const uint32_t *counts) {
  * The production is found by counting the rows before it, the number of each place by division by the rows of the
  * places behind it. Number 0 of a rule is its sentence by first choices. */
 static uint32_t list_row(const grammar *g, size_t rule, uint32_t k, uint32_t *const *table, uint16_t *out, size_t at) {
-    const uint32_t *cost = table[1], *lengths = table[2], *counts = table[3];
+    const uint32_t *cost = table[0], *lengths = table[1], *counts = table[2];
     uint32_t total = 0;
     size_t p = 0;
     for (;; p++) {
@@ -396,7 +406,7 @@ static uint32_t list_row(const grammar *g, size_t rule, uint32_t k, uint32_t *co
             one = number ? list_row(g, s - RULE, number, table, out, at + total) : lengths[s - RULE];
             if (out && !number && one) expand(g, s - RULE, cost, lengths, out, at + total);
         }
-        total = total + one > MOST ? NONE : total + one;
+        total = total + one > MOST ? LONG_ONE : total + one;
     }
     return total;
 }
@@ -404,13 +414,11 @@ static uint32_t list_row(const grammar *g, size_t rule, uint32_t k, uint32_t *co
 /* The two calls on all cheapest sentences; the first writes none. */
 static result listing(call *c, int writes) {
     const grammar *g = &c->g;
-    uint32_t *productive = c->table[0], *cost = c->table[1], *lengths = c->table[2], *counts = c->table[3];
-    fill_productive(g, productive);
+    uint32_t *cost = c->table[0], *lengths = c->table[1], *counts = c->table[2];
     fill_cost(g, cost);
     fill_lengths(g, cost, lengths);
     fill_counts(g, cost, counts);
-    if (!marked(productive, c->rule)) return refused(12);
-    if (cost[c->rule] > MOST) return refused(13);
+    if (without_cost(g, c->rule, cost)) return refused(without_cost(g, c->rule, cost));
     if (counts[c->rule] == CIRCULAR) return refused(14);
     if (counts[c->rule] == MANY || (writes && c->k >= counts[c->rule])) return refused(16);
     if (!writes) return answered(counts[c->rule]);
@@ -544,7 +552,7 @@ static result model(call *c) {
         fill_productive(g, a);
         return r;
     case COST_CLEAR:
-        clear(a, c->table_len[0], NONE);
+        clear(a, c->table_len[0], UNKNOWN);
         return r;
     case COST_VISIT:
         return answered((uint32_t)visit_cost(g, c->prod, a));
@@ -552,10 +560,9 @@ static result model(call *c) {
         fill_cost(g, a);
         return r;
     case MIN_SENTENCE_COST:
-        fill_productive(g, a);
-        fill_cost(g, b);
-        if (!marked(a, c->rule)) return refused(12);
-        return b[c->rule] > MOST ? refused(13) : answered(b[c->rule]);
+        fill_cost(g, a);
+        number = without_cost(g, c->rule, a);
+        return number ? refused(number) : answered(a[c->rule]);
     case REACHED_FILL:
         fill_reached(g, a);
         return r;

@@ -221,14 +221,14 @@ static void say_stretch(boltmarrow_stretch s) {
     ONE(cost_clear, 0, G, T(A))                                                                                        \
     EACH(cost_visit, 0, G, PROD(i), T(A))                                                                              \
     ONE(cost_fill, 0, G, T(A))                                                                                         \
-    ONE(min_sentence_cost, 1, G, RULE(0), T(A), T(B))                                                                  \
+    ONE(min_sentence_cost, 1, G, RULE(0), T(A))                                                                        \
     ONE(reached_fill, 0, G, T(D))                                                                                      \
     ONE(follow_clear, 0, G, T(A))                                                                                      \
     EACH(follow_visit, 1, G, N(0), PROD(i), T(A), T(B), T(C), T(D))                                                    \
     ONE(follow_fill, 1, G, N(0), T(A), T(B), T(C), T(D))                                                               \
-    ONE(min_sentence, 1, G, RULE(0), T(A), T(B), T(C), LIST(uint16_t, OUT))                                            \
-    ONE(count_min_sentences, 1, G, RULE(0), T(A), T(B), T(C), T(D))                                                    \
-    WIDE(min_sentence_at, 2, G, RULE(0), K(1), T(A), T(B), T(C), T(D), LIST(uint16_t, OUT))
+    ONE(min_sentence, 1, G, RULE(0), T(A), T(B), LIST(uint16_t, OUT))                                                  \
+    ONE(count_min_sentences, 1, G, RULE(0), T(A), T(B), T(C))                                                          \
+    WIDE(min_sentence_at, 2, G, RULE(0), K(1), T(A), T(B), T(C), LIST(uint16_t, OUT))
 
 #define ONE(name, numbers, ...)                                                                                        \
     static void name(void) { SAY(boltmarrow_##name(__VA_ARGS__)); }

@@ -145,7 +145,7 @@ static result library(const call *c, copies l) {
     case COST_FILL:
         return pack(boltmarrow_cost_fill(G, T(0)));
     case MIN_SENTENCE_COST:
-        return pack(boltmarrow_min_sentence_cost(G, rule, T(0), T(1)));
+        return pack(boltmarrow_min_sentence_cost(G, rule, T(0)));
     case REACHED_FILL:
         return pack(boltmarrow_reached_fill(G, T(0)));
     case FOLLOW_CLEAR:
@@ -155,11 +155,11 @@ static result library(const call *c, copies l) {
     case FOLLOW_FILL:
         return pack(boltmarrow_follow_fill(G, c->mode, T(0), T(1), T(2), T(3)));
     case MIN_SENTENCE:
-        return pack(boltmarrow_min_sentence(G, rule, T(0), T(1), T(2), l.out, c->out_len));
+        return pack(boltmarrow_min_sentence(G, rule, T(0), T(1), l.out, c->out_len));
     case COUNT_MIN_SENTENCES:
-        return pack(boltmarrow_count_min_sentences(G, rule, T(0), T(1), T(2), T(3)));
+        return pack(boltmarrow_count_min_sentences(G, rule, T(0), T(1), T(2)));
     case MIN_SENTENCE_AT:
-        return pack(boltmarrow_min_sentence_at(G, rule, c->k, T(0), T(1), T(2), T(3), l.out, c->out_len));
+        return pack(boltmarrow_min_sentence_at(G, rule, c->k, T(0), T(1), T(2), l.out, c->out_len));
     case WRITE_BLOCKS:
         return pack(boltmarrow_write_blocks(G, c->version, l.bytes, c->bytes_len));
     case OPS:
@@ -182,14 +182,14 @@ WIDE(boltmarrow_answer, first_visit, uint64_t, LIST(uint32_t), LIST(uint32_t));
 WIDE(boltmarrow_answer, has_path, uint64_t, uint64_t);
 WIDE(boltmarrow_answer, productive_visit, uint64_t, LIST(uint32_t));
 WIDE(boltmarrow_answer, cost_visit, uint64_t, LIST(uint32_t));
-WIDE(boltmarrow_answer, min_sentence_cost, uint64_t, LIST(uint32_t), LIST(uint32_t));
+WIDE(boltmarrow_answer, min_sentence_cost, uint64_t, LIST(uint32_t));
 WIDE(boltmarrow_answer, follow_visit, uint64_t, uint64_t, LIST(uint32_t), LIST(const uint32_t), LIST(const uint32_t),
      LIST(const uint32_t));
 WIDE(boltmarrow_answer, follow_fill, uint64_t, LIST(uint32_t), LIST(uint32_t), LIST(uint32_t), LIST(uint32_t));
-WIDE(boltmarrow_answer, min_sentence, uint64_t, LIST(uint32_t), LIST(uint32_t), LIST(uint32_t), LIST(uint16_t));
-WIDE(boltmarrow_answer, count_min_sentences, uint64_t, LIST(uint32_t), LIST(uint32_t), LIST(uint32_t), LIST(uint32_t));
+WIDE(boltmarrow_answer, min_sentence, uint64_t, LIST(uint32_t), LIST(uint32_t), LIST(uint16_t));
+WIDE(boltmarrow_answer, count_min_sentences, uint64_t, LIST(uint32_t), LIST(uint32_t), LIST(uint32_t));
 WIDE(boltmarrow_answer, min_sentence_at, uint64_t, uint64_t, LIST(uint32_t), LIST(uint32_t), LIST(uint32_t),
-     LIST(uint32_t), LIST(uint16_t));
+     LIST(uint16_t));
 WIDE(boltmarrow_answer, write_blocks, uint64_t, LIST(uint8_t));
 
 static uint64_t slot(uint16_t number) { return (uint64_t)next() << 32 | (uint64_t)(1 + below(65535)) << 16 | number; }
@@ -216,17 +216,17 @@ static result wide(const call *c, copies l) {
     case COST_VISIT:
         return pack(wide_cost_visit(rules, LISTS, prod, T(0)));
     case MIN_SENTENCE_COST:
-        return pack(wide_min_sentence_cost(rules, LISTS, rule, T(0), T(1)));
+        return pack(wide_min_sentence_cost(rules, LISTS, rule, T(0)));
     case FOLLOW_VISIT:
         return pack(wide_follow_visit(rules, LISTS, mode, prod, T(0), T(1), T(2), T(3)));
     case FOLLOW_FILL:
         return pack(wide_follow_fill(rules, LISTS, mode, T(0), T(1), T(2), T(3)));
     case MIN_SENTENCE:
-        return pack(wide_min_sentence(rules, LISTS, rule, T(0), T(1), T(2), l.out, c->out_len));
+        return pack(wide_min_sentence(rules, LISTS, rule, T(0), T(1), l.out, c->out_len));
     case COUNT_MIN_SENTENCES:
-        return pack(wide_count_min_sentences(rules, LISTS, rule, T(0), T(1), T(2), T(3)));
+        return pack(wide_count_min_sentences(rules, LISTS, rule, T(0), T(1), T(2)));
     case MIN_SENTENCE_AT:
-        return pack(wide_min_sentence_at(rules, LISTS, rule, slot_32(c->k), T(0), T(1), T(2), T(3), l.out, c->out_len));
+        return pack(wide_min_sentence_at(rules, LISTS, rule, slot_32(c->k), T(0), T(1), T(2), l.out, c->out_len));
     case WRITE_BLOCKS:
         return pack(wide_write_blocks(rules, LISTS, version, l.bytes, c->bytes_len));
     default:
@@ -290,7 +290,7 @@ static uint8_t bytes[100000];
 
 /* Words of every kind: sparse, dense, none, all, and numbers near COST's ends. */
 static uint32_t word(void) {
-    static const uint32_t some[] = {0, 0xFFFFFFFF, 65535, 65536, 65537, 1, 65534, 0x80000000};
+    static const uint32_t some[] = {0, 0xFFFFFFFF, 65535, 65536, 65537, 65538, 65534, 0x80000000};
     switch (below(5)) {
     case 0:
         return next();
@@ -374,7 +374,7 @@ static void cost_is(uint16_t rule, uint32_t refusal, uint32_t value) {
     expect("cost", r.refusal, refusal);
     expect("cost", r.field[0], value);
     fill(COST_FILL, 0);
-    expect("COST", words[0][rule], refusal ? NONE : value);
+    expect("COST", words[0][rule], refusal == 12 ? BOLTMARROW_COST_UNKNOWN : refusal ? BOLTMARROW_COST_DEAR : value);
 }
 
 static void sentence_is(uint16_t rule, size_t room, uint32_t refusal, uint32_t length) {
@@ -393,7 +393,7 @@ static void count_is(uint16_t rule, uint32_t refusal, uint32_t value, uint32_t e
     result r = run(&c);
     expect("count", r.refusal, refusal);
     expect("count", r.field[0], value);
-    expect("count's entry", words[3][rule], entry);
+    expect("count's entry", words[2][rule], entry);
 }
 
 static void row_refused(uint16_t rule, uint32_t k, size_t room, uint32_t refusal) {
@@ -482,7 +482,7 @@ static void g2_to_g6(void) {
     PROD(1, 0);
     cost_is(1, 0, 1);
     sentence_is(1, 100, 14, 0);
-    expect("G3 length", words[2][1], UNGROUNDED);
+    expect("G3 length", words[1][1], UNGROUNDED);
     path_is(1, 1, 1);
     path_is(0, 0, 0);
     path_is(0, 1, 1);
@@ -513,6 +513,46 @@ static void g2_to_g6(void) {
     cost_is(1, 0, 1);
     sentence_is(1, 100, 0, 1);
     expect("G6 sentence", output[0], 1);
+}
+
+/* A visit of COST on the grammar at hand, from these entries of its rules: whether it changed something, and the owner's
+ * entry then. */
+static void cost_visit(const uint32_t *entries, uint16_t prod, uint32_t changed, uint32_t after) {
+    call c = make(COST_VISIT);
+    c.prod = prod;
+    for (size_t r = 0; r < g.rules; r++) words[0][r] = entries[r];
+    expect("visit of COST", run(&c).field[0], changed);
+    expect("the owner's entry", words[0][owners[prod]], after);
+}
+
+/* Dear and unknown entries: A: B C; A: C B; A: 258 tokens of cost 255, then C; A: 257 of them. */
+static void dear_and_unknown(void) {
+    enum { MAX = BOLTMARROW_COST_MAX, DEAR_ONE = BOLTMARROW_COST_DEAR, UNKNOWN_ONE = BOLTMARROW_COST_UNKNOWN };
+    static const uint32_t unknowns[] = {UNKNOWN_ONE, 65538, 70000, 0x80000000, 0xFFFFFFFF};
+    begin(4, 2, 255);
+    PROD(0, R(1)), PROD(1, R(2), R(3)), PROD(1, R(3), R(2));
+    for (int i = 0; i < 258; i++) add(0);
+    add(R(3)), end(1);
+    for (int i = 0; i < 257; i++) add(0);
+    end(1), PROD(2, 0), PROD(3, 0);
+    for (int i = 0; i < 5; i++) {
+        uint32_t u = unknowns[i];
+        for (uint16_t p = 1; p < 4; p++) {
+            cost_visit((uint32_t[]){9, u, DEAR_ONE, u}, p, 0, u); /* unknown beside dear */
+            cost_visit((uint32_t[]){9, 5, 1, u}, p, 0, 5);
+            cost_visit((uint32_t[]){9, DEAR_ONE, 1, u}, p, 0, DEAR_ONE);
+        }
+        cost_visit((uint32_t[]){9, u, DEAR_ONE, 1}, 1, 1, DEAR_ONE); /* a dear part */
+        cost_visit((uint32_t[]){9, u, 1, DEAR_ONE}, 1, 1, DEAR_ONE);
+        cost_visit((uint32_t[]){9, u, MAX, 1}, 2, 1, DEAR_ONE); /* a total above 65535 */
+        cost_visit((uint32_t[]){9, u, MAX, 0}, 2, 1, MAX);
+        cost_visit((uint32_t[]){9, u, u, 0}, 3, 1, DEAR_ONE);
+        cost_visit((uint32_t[]){9, u, u, u}, 4, 1, MAX);
+    }
+    cost_visit((uint32_t[]){9, DEAR_ONE, DEAR_ONE, 1}, 1, 0, DEAR_ONE);
+    cost_visit((uint32_t[]){9, DEAR_ONE, MAX, 0}, 1, 1, MAX); /* a dear entry is lowered */
+    cost_visit((uint32_t[]){9, DEAR_ONE, 3, 4}, 2, 1, 7);
+    cost_visit((uint32_t[]){9, MAX, DEAR_ONE, 0}, 1, 0, MAX);
 }
 
 /* Two exports: start: Daily; start: Weekly; Daily: day Num Unit comma; Weekly: week Num; Num: digits; Unit: unit;
@@ -636,7 +676,7 @@ static void lengths(void) {
     sentence_is(18, 65534, 15, 0);
     sentence_is(18, 100000, 0, 65535);
     sentence_is(1, 100000, 15, 0);
-    expect("length", words[2][1], NONE);
+    expect("length", words[1][1], BOLTMARROW_LENGTH_LONG);
 
     begin(61, 1, 0);
     PROD(0, R(1));
@@ -1117,7 +1157,7 @@ static void damage(void) {
 }
 
 /* No token but eof costs nothing, so that version 2 takes the grammar at hand. */
-static void dear(void) {
+static void costly(void) {
     for (size_t t = 0; t + 1 < g.tokens; t++) costs[t] |= 1;
 }
 
@@ -1131,7 +1171,7 @@ static size_t any_room(void) {
 static void random_calls(int grammars) {
     for (int n = 0; n < grammars; n++) {
         random_grammar();
-        if (below(3) == 0) dear();
+        if (below(3) == 0) costly();
         if (below(4) == 0) damage();
         call c = make((op)below(OPS));
         /* visits of FOLLOW read any row, and in half of the cases the finished one */
@@ -1148,7 +1188,7 @@ static void random_calls(int grammars) {
             *len = right;
         }
         if (g.rules && g.tokens < 60000 && below(3) == 0) {
-            if (below(3) == 0) dear();
+            if (below(3) == 0) costly();
             make_version(1 + (int)below(2));
             if (below(2)) file[below((uint32_t)file_len)] ^= (uint8_t)(1u << below(8));
             if (below(2)) seal();
@@ -1163,6 +1203,7 @@ int main(void) {
     g1();
     g2_to_g6();
     exports();
+    dear_and_unknown();
     dead();
     lengths();
     lists_of_rules();

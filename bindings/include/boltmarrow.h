@@ -24,11 +24,13 @@
  * Spare bits, those of a row's last word behind its last mark: no visit or query reads or changes
  * them; clear and fill leave them zero.
  *
- * COST is R numbers, 0 to 65535, or 65536 where none is known. The lengths are R numbers, the count
- * of tokens of each rule's sentence: 65536 if it is longer than 65535, 65537 if the rule is
- * ungrounded (its choice is circular) or has no cost. The counts are R numbers, how many cheapest
- * sentences each rule has: 65536 for more than 65535, 65537 if the rule is circular through cheapest
- * productions (14 of the calls on all cheapest sentences) or has no cost.
+ * COST is R numbers: the cost, 0 to 65535; 65536 where the rule is dear: it has a sentence, and none
+ * at 65535 or less has been found; 65537 where no sentence is known. A larger number counts as
+ * unknown. The lengths are R numbers, the count of tokens of each rule's sentence: 65536 if it is
+ * longer than 65535, 65537 if the rule is ungrounded (its choice is circular) or has no cost. The
+ * counts are R numbers, how many cheapest sentences each rule has: 65536 for more than 65535, 65537
+ * if the rule is circular through cheapest productions (14 of the calls on all cheapest sentences)
+ * or has no cost. The constants below name these numbers.
  *
  * Stack. boltmarrow_min_sentence takes up to 110 KB: 208 bytes for each level of rules in rules, of
  * which there are at most 512. boltmarrow_count_min_sentences takes up to 170 KB, 276 bytes a level,
@@ -111,6 +113,21 @@ typedef struct {
     uint32_t version;
 } boltmarrow_counts;
 
+/* an entry of COST: up to MAX a cost; DEAR; UNKNOWN */
+#define BOLTMARROW_COST_MAX 65535u
+#define BOLTMARROW_COST_DEAR 65536u
+#define BOLTMARROW_COST_UNKNOWN 65537u
+
+/* a length: up to MAX the token count of the rule's sentence; LONG; NONE: ungrounded or without cost */
+#define BOLTMARROW_LENGTH_MAX 65535u
+#define BOLTMARROW_LENGTH_LONG 65536u
+#define BOLTMARROW_LENGTH_NONE 65537u
+
+/* a count: up to MAX that of the rule's cheapest sentences; MANY; NONE: circular or without cost */
+#define BOLTMARROW_COUNT_MAX 65535u
+#define BOLTMARROW_COUNT_MANY 65536u
+#define BOLTMARROW_COUNT_NONE 65537u
+
 /* the five parameters of a grammar */
 #define BOLTMARROW_GRAMMAR                                                                         \
     uint16_t rules, const uint16_t *owners, size_t owners_len, const uint16_t *starts,             \
@@ -152,16 +169,18 @@ boltmarrow_answer boltmarrow_productive_visit(BOLTMARROW_GRAMMAR, boltmarrow_pid
 boltmarrow_answer boltmarrow_productive_fill(BOLTMARROW_GRAMMAR, uint32_t *productive,
                                              size_t productive_len);
 
-/* COST: cleared is 65536, none known; else as for FIRST. Refusals 1 to 7; visit 11 too. */
+/* COST: cleared is 65537, none known; else as for FIRST. A visit adds up its production: unknown if
+ * some rule in it is, else dear if one is or the total is above 65535. An unknown sum changes
+ * nothing, else the owner's entry becomes the smaller of itself and the sum. While a table is being
+ * filled a dear entry may still be lowered to a cost. Refusals 1 to 7; visit 11 too. */
 boltmarrow_answer boltmarrow_cost_clear(BOLTMARROW_GRAMMAR, uint32_t *cost, size_t cost_len);
 boltmarrow_answer boltmarrow_cost_visit(BOLTMARROW_GRAMMAR, boltmarrow_pidx prod, uint32_t *cost,
                                         size_t cost_len);
 boltmarrow_answer boltmarrow_cost_fill(BOLTMARROW_GRAMMAR, uint32_t *cost, size_t cost_len);
 
-/* The least cost of a sentence of a rule. Refusals 1 to 7, 9; then both tables are filled, and 12
- * or 13 may follow. */
+/* The least cost of a sentence of a rule. Refusals 1 to 7, 9; then COST is filled, and 12 or 13 may
+ * follow: its entry is BOLTMARROW_COST_UNKNOWN or BOLTMARROW_COST_DEAR. */
 boltmarrow_answer boltmarrow_min_sentence_cost(BOLTMARROW_GRAMMAR, boltmarrow_ridx rule,
-                                               uint32_t *productive, size_t productive_len,
                                                uint32_t *cost, size_t cost_len);
 
 /* The reached row: rule 0 and the rules that have a path from it, whatever was there. All other
@@ -187,29 +206,26 @@ boltmarrow_answer boltmarrow_follow_fill(BOLTMARROW_GRAMMAR, uint16_t mode, uint
                                          size_t reached_len);
 
 /* Writes the cheapest sentence of a rule, each rule replaced by its first choice, to the front of
- * `out`; the answer is its length. Refusals 1 to 7, 9; then the three tables are filled, and 12 to
- * 15 may follow, which leave `out` as found. `out` is room of any length. */
+ * `out`; the answer is its length. Refusals 1 to 7, 9; then both tables are filled, and 12 to 15 may
+ * follow, which leave `out` as found. `out` is room of any length. */
 boltmarrow_answer boltmarrow_min_sentence(BOLTMARROW_GRAMMAR, boltmarrow_ridx rule,
-                                          uint32_t *productive, size_t productive_len,
                                           uint32_t *cost, size_t cost_len, uint32_t *lengths,
                                           size_t lengths_len, uint16_t *out, size_t out_len);
 
 /* How many cheapest sentences a rule has: its derivations through cheapest productions only, those
  * whose cost is their rule's. A sentence with two derivations counts twice. Refusals 1 to 7, 9; then
- * the four tables are filled, and 12, 13, 14 or 16 may follow. */
+ * the three tables are filled, and 12, 13, 14 or 16 may follow. */
 boltmarrow_answer boltmarrow_count_min_sentences(BOLTMARROW_GRAMMAR, boltmarrow_ridx rule,
-                                                 uint32_t *productive, size_t productive_len,
                                                  uint32_t *cost, size_t cost_len,
                                                  uint32_t *lengths, size_t lengths_len,
                                                  uint32_t *counts, size_t counts_len);
 
 /* Writes cheapest sentence number k of a rule, from 0, to the front of `out`; the answer is its
  * length. Productions rise, and within one the last place turns fastest; number 0 is what
- * boltmarrow_min_sentence writes. Refusals 1 to 7, 9; then the four tables are filled, and 12, 13,
+ * boltmarrow_min_sentence writes. Refusals 1 to 7, 9; then the three tables are filled, and 12, 13,
  * 14, 16 and 15 may follow, in this order, which leave `out` as found. `out` is room of any length;
  * `k` has 32 bits. */
 boltmarrow_answer boltmarrow_min_sentence_at(BOLTMARROW_GRAMMAR, boltmarrow_ridx rule, uint32_t k,
-                                             uint32_t *productive, size_t productive_len,
                                              uint32_t *cost, size_t cost_len, uint32_t *lengths,
                                              size_t lengths_len, uint32_t *counts,
                                              size_t counts_len, uint16_t *out, size_t out_len);

@@ -17,7 +17,7 @@ use std::process::Command;
 use std::thread::sleep;
 use std::time::{Duration, Instant};
 
-use boltmarrow::{Grammar, Mode, PIdx, RIdx, TIdx};
+use boltmarrow::{Cost, Grammar, Mode, PIdx, RIdx, TIdx};
 use boltmarrow_cfgrammar::{flatten, rule, token};
 use cfgrammar::yacc::{YaccGrammar, YaccKind, YaccOriginalActionKind};
 
@@ -65,8 +65,17 @@ fn hold_marks(grm: &YaccGrammar<u16>, flat: &Grammar) {
 
 fn hold_costs(grm: &YaccGrammar<u16>, flat: &Grammar, costs: &[u8]) {
     let ours = flat.costs();
-    let ours: Vec<Option<u16>> = flat.iter_rules().map(|ridx| ours.cost(ridx).unwrap()).collect();
-    assert_eq!(ours, rust_costs(grm, costs).into_iter().map(Some).collect::<Vec<_>>());
+    let ours: Vec<Cost> = flat.iter_rules().map(|ridx| ours.cost(ridx).unwrap()).collect();
+    assert_eq!(ours, rust_costs(grm, costs).into_iter().map(Cost::Is).collect::<Vec<_>>());
+}
+
+/// What an entry of C's table says.
+fn cost_of(entry: u32) -> Cost {
+    match (u16::try_from(entry), entry) {
+        (Ok(cost), _) => Cost::Is(cost),
+        (Err(_), 65536) => Cost::Dear,
+        _ => Cost::Unknown,
+    }
 }
 
 /// What C leaves is what the library does.
@@ -90,7 +99,7 @@ fn hold_plain(plain: &Plain, flat: &Grammar) {
         for (plain, ours) in [&one, &two] {
             assert_eq!(ours.reached().is_set(ridx), Ok(bit(&plain[3], 0, r)));
         }
-        assert_eq!(cost.cost(ridx), Ok(u16::try_from(costs[r]).ok()));
+        assert_eq!(cost.cost(ridx), Ok(cost_of(costs[r])));
     }
 }
 

@@ -5,7 +5,8 @@
 #include <string.h>
 
 #define RULE 32768u
-#define NONE 65536u
+#define DEAR 65536u
+#define UNKNOWN 65537u
 
 static int falls(const struct plain_grammar *g)
 {
@@ -216,9 +217,10 @@ static int cost_step(const struct plain_grammar *g, size_t p, uint32_t *cost)
     uint32_t sum = 0;
     for (size_t k = g->starts[p]; k < g->starts[p + 1]; k++) {
         unsigned s = g->symbols[k];
-        sum += s < RULE ? g->costs[s] : cost[s - RULE];
-        if (sum >= NONE)
+        uint32_t part = s < RULE ? g->costs[s] : cost[s - RULE];
+        if (part > DEAR)
             return 0;
+        sum = sum + part < DEAR ? sum + part : DEAR;
     }
     if (sum >= cost[g->owners[p]])
         return 0;
@@ -232,7 +234,7 @@ unsigned plain_cost_fill(const struct plain_grammar *g, uint32_t *cost)
     if (refused != 0)
         return refused;
     for (size_t r = 0; r < g->rules; r++)
-        cost[r] = NONE;
+        cost[r] = UNKNOWN;
     for (int down = 0, changed = 1; changed; down = !down) {
         changed = 0;
         for (size_t i = 0; i < g->prods; i++)

@@ -14,7 +14,7 @@ static uint32_t rules, tokens, prods, length; /* R, T, P, N */
 static uint16_t owners[PRODS], starts[PRODS + 1], symbols[SYMBOLS];
 static uint8_t costs[TOKENS];
 static uint32_t first[RULES * TOKENS / 32], follow[RULES * TOKENS / 32];
-static uint32_t empty[RULES / 32], reached[RULES / 32], productive[RULES / 32];
+static uint32_t empty[RULES / 32], reached[RULES / 32];
 static uint32_t prices[RULES], lengths[RULES], counts[RULES];
 static uint16_t sentence[ROOM];
 static uint32_t listed; /* so many rules have their lists asked for */
@@ -123,7 +123,7 @@ static void print_costs(void) {
     printf("\"costs\":[");
     for (uint16_t r = 0; r < rules; r++) {
         printf("%s", comma(r));
-        outcome(boltmarrow_min_sentence_cost(GRAMMAR, RIDX(r), productive, ROW, prices, rules));
+        outcome(boltmarrow_min_sentence_cost(GRAMMAR, RIDX(r), prices, rules));
     }
     printf("],");
 }
@@ -135,8 +135,8 @@ static void print_tokens(uint32_t length) {
 }
 
 static void print_sentence(uint16_t rule) {
-    boltmarrow_answer answer = boltmarrow_min_sentence(GRAMMAR, RIDX(rule), productive, ROW, prices, rules, lengths,
-                                                       rules, sentence, ROOM);
+    boltmarrow_answer answer = boltmarrow_min_sentence(GRAMMAR, RIDX(rule), prices, rules, lengths, rules,
+                                                       sentence, ROOM);
     if (answer.refusal) {
         refused(answer.refusal);
         return;
@@ -155,7 +155,7 @@ static void print_sentences(void) {
     printf("],");
 }
 
-#define WORKING productive, ROW, prices, rules, lengths, rules, counts, rules
+#define WORKING prices, rules, lengths, rules, counts, rules
 
 static void print_counts(void) {
     printf("\"counts\":[");

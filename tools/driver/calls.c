@@ -55,14 +55,14 @@ CALL(productive_fill, GRAMMAR, WORDS(4))
 CALL(cost_clear, GRAMMAR, WORDS(4))
 CALL(cost_visit, GRAMMAR, PIDX(1), WORDS(4))
 CALL(cost_fill, GRAMMAR, WORDS(4))
-CALL(min_sentence_cost, GRAMMAR, RIDX(1), WORDS(4), WORDS(5))
+CALL(min_sentence_cost, GRAMMAR, RIDX(1), WORDS(4))
 CALL(reached_fill, GRAMMAR, WORDS(4))
 CALL(follow_clear, GRAMMAR, WORDS(4))
 CALL(follow_visit, GRAMMAR, NUMBER(1), PIDX(2), WORDS(4), WORDS(5), WORDS(6), WORDS(7))
 CALL(follow_fill, GRAMMAR, NUMBER(1), WORDS(4), WORDS(5), WORDS(6), WORDS(7))
-CALL(min_sentence, GRAMMAR, RIDX(1), WORDS(4), WORDS(5), WORDS(6), HALVES(7))
-CALL(count_min_sentences, GRAMMAR, RIDX(1), WORDS(4), WORDS(5), WORDS(6), WORDS(7))
-CALL(min_sentence_at, GRAMMAR, RIDX(1), c->number[2], WORDS(4), WORDS(5), WORDS(6), WORDS(7), HALVES(8))
+CALL(min_sentence, GRAMMAR, RIDX(1), WORDS(4), WORDS(5), HALVES(6))
+CALL(count_min_sentences, GRAMMAR, RIDX(1), WORDS(4), WORDS(5), WORDS(6))
+CALL(min_sentence_at, GRAMMAR, RIDX(1), c->number[2], WORDS(4), WORDS(5), WORDS(6), HALVES(7))
 CALL(write_blocks, GRAMMAR, NUMBER(1), BYTES(4))
 
 static void production(struct call *c) {
@@ -96,14 +96,14 @@ static const struct {
     {cost_clear, "nhhhbw"},
     {cost_visit, "nhhhbnw"},
     {cost_fill, "nhhhbw"},
-    {min_sentence_cost, "nhhhbnww"},
+    {min_sentence_cost, "nhhhbnw"},
     {reached_fill, "nhhhbw"},
     {follow_clear, "nhhhbw"},
     {follow_visit, "nhhhbnnwwww"},
     {follow_fill, "nhhhbnwwww"},
-    {min_sentence, "nhhhbnwwwh"},
-    {count_min_sentences, "nhhhbnwwww"},
-    {min_sentence_at, "nhhhbnkwwwwh"},
+    {min_sentence, "nhhhbnwwh"},
+    {count_min_sentences, "nhhhbnwww"},
+    {min_sentence_at, "nhhhbnkwwwh"},
     {write_blocks, "nhhhbnb"},
     {read_blocks, "bhhhb"},
 };

@@ -1,4 +1,4 @@
-use crate::sys;
+use crate::sys::{self, COST_DEAR, COST_MAX, COST_UNKNOWN};
 use crate::table::{done, rule_mark};
 use crate::{Grammar, PIdx, RIdx, Refusal};
 
@@ -17,17 +17,48 @@ impl Productive<'_> {
     }
 }
 
+/// What COST holds of a rule.
+#[derive(Clone, Copy, Debug, PartialEq, Eq, Hash)]
+pub enum Cost {
+    /// The cost of a sentence of the rule, at most 65535; in a whole table that of the cheapest.
+    Is(u16),
+    /// The rule has a sentence, and none that costs 65535 or less has been found; in a whole table there is none.
+    Dear,
+    /// No sentence of the rule is known; in a whole table it has none.
+    Unknown,
+}
+
+impl Cost {
+    fn of(entry: u32) -> Cost {
+        match entry {
+            0..=COST_MAX => Cost::Is(entry as u16),
+            COST_DEAR => Cost::Dear,
+            COST_UNKNOWN.. => Cost::Unknown,
+        }
+    }
+
+    /// The cost, where one is known.
+    #[must_use]
+    pub fn known(self) -> Option<u16> {
+        match self {
+            Cost::Is(cost) => Some(cost),
+            Cost::Dear | Cost::Unknown => None,
+        }
+    }
+}
+
 /// COST, whole: as its fill left it. It can be asked and not changed.
 #[derive(Clone, Debug)]
 pub struct Costs<'g>(CostTable<'g>);
 
 impl Costs<'_> {
-    /// The cost of the rule's cheapest sentence; none where it has no sentence of at most 65535.
+    /// The cost of the rule's cheapest sentence; [`Cost::Dear`] where it has one but none costs 65535 or less,
+    /// [`Cost::Unknown`] where it has none.
     ///
     /// # Errors
     ///
     /// Refusal 9 for a rule that the grammar does not have.
-    pub fn cost(&self, ridx: RIdx) -> Result<Option<u16>, Refusal> {
+    pub fn cost(&self, ridx: RIdx) -> Result<Cost, Refusal> {
         self.0.cost(ridx)
     }
 }
@@ -76,7 +107,8 @@ impl<'g> ProductiveTable<'g> {
     }
 }
 
-/// COST, lowered by single visits in any order: the cost of a sentence of each rule, in the end the cheapest.
+/// COST, lowered by single visits in any order: the cost of a sentence of each rule, in the end the cheapest. A rule that
+/// is dear may still be lowered to a cost.
 #[derive(Clone, Debug)]
 pub struct CostTable<'g> {
     grammar: &'g Grammar,
@@ -110,13 +142,12 @@ impl<'g> CostTable<'g> {
         sys::cost_visit(self.grammar.flat(), pidx.0, &mut self.cost).yes()
     }
 
-    /// The cost of a sentence of the rule; none where none of at most 65535 is known.
+    /// The cost of a sentence of the rule that the visits found, or that they found only dear ones, or none.
     ///
     /// # Errors
     ///
     /// Refusal 9 for a rule that the grammar does not have.
-    pub fn cost(&self, ridx: RIdx) -> Result<Option<u16>, Refusal> {
-        let entry = self.cost.get(usize::from(ridx)).ok_or(Refusal::RuleNumber)?;
-        Ok(u16::try_from(*entry).ok())
+    pub fn cost(&self, ridx: RIdx) -> Result<Cost, Refusal> {
+        self.cost.get(usize::from(ridx)).map(|&entry| Cost::of(entry)).ok_or(Refusal::RuleNumber)
     }
 }

@@ -39,7 +39,7 @@ mod table;
 mod tests;
 mod version;
 
-pub use costs::{CostTable, Costs, Productive, ProductiveTable};
+pub use costs::{Cost, CostTable, Costs, Productive, ProductiveTable};
 pub use firsts::{FirstTable, Firsts};
 pub use follows::{FollowTable, Follows, Mode};
 pub use grammar::Grammar;

@@ -1,11 +1,8 @@
 use std::iter::FusedIterator;
 use std::ops::Range;
 
-use crate::sys;
+use crate::sys::{self, LENGTH_MAX};
 use crate::{Grammar, RIdx, Refusal, TIdx};
-
-/// The longest sentence that is given.
-const LONGEST: usize = 65535;
 
 /// Gives cheapest sentences. It keeps no tables: each call fills those that it needs.
 #[derive(Clone, Copy, Debug)]
@@ -25,8 +22,8 @@ impl<'g> SentenceGenerator<'g> {
     /// Refusal 9 for a rule that the grammar does not have, 12 if the rule has no sentence, 13 if none costs 65535 or
     /// less.
     pub fn min_sentence_cost(&self, ridx: RIdx) -> Result<u16, Refusal> {
-        let (mut productive, mut cost) = (self.grammar.rule_marks(), self.grammar.numbers());
-        let least = sys::min_sentence_cost(self.grammar.flat(), ridx.0, &mut productive, &mut cost).number()?;
+        let mut cost = self.grammar.numbers();
+        let least = sys::min_sentence_cost(self.grammar.flat(), ridx.0, &mut cost).number()?;
         Ok(u16::try_from(least).expect("a cost that is given is at most 65535"))
     }
 
@@ -38,7 +35,7 @@ impl<'g> SentenceGenerator<'g> {
     /// As [`min_sentence_cost`](Self::min_sentence_cost); 14 if the choice is circular ([`Refusal::Circular`]), 15 if
     /// the sentence has more than 65535 tokens.
     pub fn min_sentence(&self, ridx: RIdx) -> Result<Vec<TIdx>, Refusal> {
-        self.min_sentence_in(ridx, LONGEST)
+        self.min_sentence_in(ridx, LENGTH_MAX)
     }
 
     /// The same, where it has at most `room` tokens.
@@ -47,11 +44,10 @@ impl<'g> SentenceGenerator<'g> {
     ///
     /// As [`min_sentence`](Self::min_sentence), and 15 if the sentence has more than `room` tokens.
     pub fn min_sentence_in(&self, ridx: RIdx, room: usize) -> Result<Vec<TIdx>, Refusal> {
-        let mut productive = self.grammar.rule_marks();
         let (mut cost, mut lengths) = (self.grammar.numbers(), self.grammar.numbers());
-        let mut out = vec![0; room.min(LONGEST)];
+        let mut out = vec![0; room.min(LENGTH_MAX)];
         let flat = self.grammar.flat();
-        let len = sys::min_sentence(flat, ridx.0, &mut productive, &mut cost, &mut lengths, &mut out).number()?;
+        let len = sys::min_sentence(flat, ridx.0, &mut cost, &mut lengths, &mut out).number()?;
         out.truncate(len as usize);
         Ok(out.into_iter().map(TIdx).collect())
     }
@@ -151,7 +147,6 @@ impl FusedIterator for MinSentences<'_> {}
 #[derive(Clone, Debug)]
 struct Working<'g> {
     grammar: &'g Grammar,
-    productive: Vec<u32>,
     cost: Vec<u32>,
     lengths: Vec<u32>,
     counts: Vec<u32>,
@@ -161,20 +156,20 @@ struct Working<'g> {
 
 impl<'g> Working<'g> {
     fn new(grammar: &'g Grammar) -> Self {
-        let (productive, cost) = (grammar.rule_marks(), grammar.numbers());
-        Working { grammar, productive, cost, lengths: grammar.numbers(), counts: grammar.numbers(), out: vec![] }
+        let [cost, lengths, counts] = [(); 3].map(|()| grammar.numbers());
+        Working { grammar, cost, lengths, counts, out: vec![] }
     }
 
     fn count(&mut self, ridx: RIdx) -> Result<u16, Refusal> {
-        let Working { grammar, productive, cost, lengths, counts, .. } = self;
-        let count = sys::count_min_sentences(grammar.flat(), ridx.0, productive, cost, lengths, counts).number()?;
+        let Working { grammar, cost, lengths, counts, .. } = self;
+        let count = sys::count_min_sentences(grammar.flat(), ridx.0, cost, lengths, counts).number()?;
         Ok(u16::try_from(count).expect("a count that is given is at most 65535"))
     }
 
     fn row(&mut self, ridx: RIdx, k: u32) -> Result<Vec<TIdx>, Refusal> {
-        self.out.resize(LONGEST, 0);
-        let Working { grammar, productive, cost, lengths, counts, out } = self;
-        let tables = [&mut productive[..], cost, lengths, counts];
+        self.out.resize(LENGTH_MAX, 0);
+        let Working { grammar, cost, lengths, counts, out } = self;
+        let tables = [&mut cost[..], lengths, counts];
         let len = sys::min_sentence_at(grammar.flat(), ridx.0, k, tables, out).number()?;
         Ok(self.out[..len as usize].iter().map(|&number| TIdx(number)).collect())
     }

@@ -9,6 +9,13 @@
 
 use crate::Refusal;
 
+/// An entry of COST, as in the header: up to this a cost; a sentence is known, but none so cheap; none is known.
+pub(crate) const COST_MAX: u32 = 65535;
+pub(crate) const COST_DEAR: u32 = 65536;
+pub(crate) const COST_UNKNOWN: u32 = 65537;
+/// The tokens of the longest sentence that is given.
+pub(crate) const LENGTH_MAX: usize = 65535;
+
 /// A grammar as the calls take it: any lists at all.
 #[derive(Clone, Copy)]
 pub(crate) struct Flat<'a> {
@@ -119,14 +126,13 @@ exports! {
     boltmarrow_cost_clear = cost_clear(; cost: u32;;) -> Answer;
     boltmarrow_cost_visit = cost_visit(prod; cost: u32;;) -> Answer;
     boltmarrow_cost_fill = cost_fill(; cost: u32;;) -> Answer;
-    boltmarrow_min_sentence_cost = min_sentence_cost(rule; productive: u32, cost: u32;;) -> Answer;
+    boltmarrow_min_sentence_cost = min_sentence_cost(rule; cost: u32;;) -> Answer;
     boltmarrow_reached_fill = reached_fill(; reached: u32;;) -> Answer;
     boltmarrow_follow_clear = follow_clear(; follow: u32;;) -> Answer;
     boltmarrow_follow_visit = follow_visit(mode prod; follow: u32; first: u32, empty: u32, reached: u32;) -> Answer;
     boltmarrow_follow_fill = follow_fill(mode; follow: u32, first: u32, empty: u32, reached: u32;;) -> Answer;
-    boltmarrow_min_sentence = min_sentence(rule; productive: u32, cost: u32, lengths: u32, out: u16;;) -> Answer;
-    boltmarrow_count_min_sentences =
-        count_min_sentences(rule; productive: u32, cost: u32, lengths: u32, counts: u32;;) -> Answer;
+    boltmarrow_min_sentence = min_sentence(rule; cost: u32, lengths: u32, out: u16;;) -> Answer;
+    boltmarrow_count_min_sentences = count_min_sentences(rule; cost: u32, lengths: u32, counts: u32;;) -> Answer;
     boltmarrow_write_blocks = write_blocks(version; out: u8;;) -> Answer;
 }
 
@@ -143,8 +149,6 @@ extern "C" {
         _: usize,
         rule: u16,
         k: u32,
-        productive: *mut u32,
-        _: usize,
         cost: *mut u32,
         _: usize,
         lengths: *mut u32,
@@ -156,9 +160,9 @@ extern "C" {
     ) -> Answer;
 }
 
-/// The tables are PRODUCTIVE, COST, the lengths and the counts.
-pub(crate) fn min_sentence_at(g: Flat, rule: u16, k: u32, tables: [&mut [u32]; 4], out: &mut [u16]) -> Answer {
-    let [productive, cost, lengths, counts] = tables;
+/// The tables are COST, the lengths and the counts.
+pub(crate) fn min_sentence_at(g: Flat, rule: u16, k: u32, tables: [&mut [u32]; 3], out: &mut [u16]) -> Answer {
+    let [cost, lengths, counts] = tables;
     // Safe: see the head of this file.
     unsafe {
         boltmarrow_min_sentence_at(
@@ -173,8 +177,6 @@ pub(crate) fn min_sentence_at(g: Flat, rule: u16, k: u32, tables: [&mut [u32]; 4
             g.costs.len(),
             rule,
             k,
-            productive.as_mut_ptr(),
-            productive.len(),
             cost.as_mut_ptr(),
             cost.len(),
             lengths.as_mut_ptr(),

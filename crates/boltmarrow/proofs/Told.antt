@@ -11,7 +11,7 @@ use Rattle.grammar.specs.Refusals.{dues, unlessDue}
 use Rattle.tables.specs.Append.{Writes}
 use Rattle.tables.specs.Call.{Call, Visits, Leaves}
 use Rattle.paths.specs.Calls.{Answers}
-use Rattle.costs.specs.Query.{Work, Priced}
+use Rattle.costs.specs.Query.{Priced}
 use Rattle.costs.proofs.Exactly.{kinds}
 use Rattle.sentences.specs.Query.{Lends, Sentenced}
 use Rattle.sentences.proofs.Exactly.{Fate, none, dear, circular, long, is, fate, said, says-said}
@@ -61,8 +61,8 @@ visits-numbered x = answered (cond (x .changed) 1 0) (x .answer)
 pub path-numbered : {g : Flat} {a b : ℕ} {s : Outcome Bool} {u : Unit {0}} → Answers g a b s u → Numbered s
 path-numbered x = answered (x .answer) (x .told)
 
-pub priced-numbered : (g : Flat) (r : ℕ) {s : Outcome ℕ} {a : Work} → Priced g r s a → Numbered s
-priced-numbered g r x = elim (kinds g r x) [
+pub priced-numbered : (g : Flat) (r : ℕ) {s : Outcome ℕ} {a : List ℕ} → Priced g r s a → Numbered s
+priced-numbered g r x = elim (kinds g r (x .cost)) [
   | inl h ↦ refusing 12 (x .none h) (omega arith)
   | inr (inl h) ↦ refusing 13 (x .dear (h .0) (h .1)) (omega arith)
   | inr (inr h) ↦ answered (h .0) (x .is (h .0) (h .1) (h .2))

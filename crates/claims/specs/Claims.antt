@@ -5,6 +5,7 @@ use mathlib.Core.Logic.{_↔_}
 use mathlib.Core.Path.{_≡_}
 use Prim.Native.Nat.{ℕ, _≤_, _<_}
 use lib.ListN.{length}
+use Rattle.theory.specs.Entries.{costMax}
 use Rattle.theory.specs.Definitions.{First, Productive, Cost, Path, Reached}
 use Rattle.theory.specs.Follow.{Mode, crate, corrected, Follow, Stands}
 use Rattle.theory.specs.Grammar.{rul}
@@ -63,7 +64,7 @@ Says (costIs g r n) = Cost (denoted g) (price g) r n
 -- r has no sentence: it gets 12
 Says (noSentence g r) = Productive (denoted g) r → ⊥
 -- r has a cost and, with the COST table, is not grounded: it gets 14
-Says (circular g r) = (c : Costs) × CostExact (denoted g) (price g) c × (c r ≤ 65535) × (Grounded (denoted g) (price g) c (rul r ∷ []) → ⊥)
+Says (circular g r) = (c : Costs) × CostExact (denoted g) (price g) c × (c r ≤ costMax) × (Grounded (denoted g) (price g) c (rul r ∷ []) → ⊥)
 -- with the COST table r's sentence is w
 Says (sentenceIs g r w) = (c : Costs) × CostExact (denoted g) (price g) c × Expands (denoted g) (price g) c (rul r ∷ []) w
 -- a path from a to b, and none

@@ -10,7 +10,7 @@ use lib.Dec.{eqb, leb}
 use lib.ListN.{length}
 use Rattle.theory.specs.Fills.{turn}
 use Rattle.theory.specs.Grammar.{Grammar}
-use Rattle.theory.specs.Visits.{Costs, formCost, lower, costVisit}
+use Rattle.theory.specs.Visits.{Costs, sumCost, lower, costVisit}
 use Rattle.theory.proofs.Bools.{or-split, or-none, or-left, or-right}
 use Rattle.theory.proofs.Fills.{turned}
 use Rattle.grammar.specs.Flat.{Flat, denoted, price}
@@ -22,7 +22,7 @@ use Rattle.costs.proofs.Rounding.{CostTurned, cost-begin, cost-ready, c
 
 -- a visit raises no entry
 lower-le : (n s : ℕ) → lower n s ≤ n
-lower-le n s = go (leb s 65535)
+lower-le n s = go (leb s 65536)
   where
     go : (b : Bool) → cond b (min n s) n ≤ n
     go true = omega arith
@@ -31,8 +31,8 @@ lower-le n s = go (leb s 65535)
 visit-le : (g : Grammar) (k : ℕ → ℕ) (p : ℕ) (c : Costs) (r : ℕ) → costVisit g k p c r ≤ c r
 visit-le g k p c r = go (eqb r (g .owner p))
   where
-    go : (b : Bool) → cond b (lower (c r) (formCost k c (g .body p))) (c r) ≤ c r
-    go true = lower-le (c r) (formCost k c (g .body p))
+    go : (b : Bool) → cond b (lower (c r) (sumCost k c (g .body p))) (c r) ≤ c r
+    go true = lower-le (c r) (sumCost k c (g .body p))
     go false = omega arith
 
 -- what is calm stays so where entries fall that were not read

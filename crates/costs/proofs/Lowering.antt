@@ -9,7 +9,7 @@ use lib.ListN.{length, getD, set}
 use lib.Seq.{getD-set-same, getD-set-other}
 use borrow.Author.Tests.{eq-eqb, ne-eqb}
 use Rattle.theory.specs.Grammar.{Grammar}
-use Rattle.theory.specs.Visits.{Costs, formCost, costVisit}
+use Rattle.theory.specs.Visits.{Costs, sumCost, costVisit}
 use Rattle.grammar.specs.Flat.{Flat, flat, at, ProdAt, form, denoted, price}
 use Rattle.grammar.proofs.Forms.{placed}
 use Rattle.costs.specs.Lent.{costsOf}
@@ -19,9 +19,9 @@ use Rattle.costs.proofs.Stepping.{cut-stays, pricing, owner-in, cost-le
 use Rattle.costs.proofs.Summing.{entry}
 
 -- a visit leaves a table whose entry the sum does not come below
-still : (g : Grammar) (k : ℕ → ℕ) (p : ℕ) (d : Costs) → min (d (g .owner p)) 65536 ≤ formCost k d (g .body p) → costVisit g k p d ≡ d
+still : (g : Grammar) (k : ℕ → ℕ) (p : ℕ) (d : Costs) → min (d (g .owner p)) 65537 ≤ sumCost k d (g .body p) → costVisit g k p d ≡ d
 still g k p d le = fun-ext (λ r. elim (ℕ-discrete r (g .owner p)) [
-  | yes e ↦ rw (e, eq-eqb (g .owner p) (g .owner p) refl) (cut-stays (d (g .owner p)) (formCost k d (g .body p)) (min (d (g .owner p)) 65536) refl le)
+  | yes e ↦ rw (e, eq-eqb (g .owner p) (g .owner p) refl) (cut-stays (d (g .owner p)) (sumCost k d (g .body p)) (min (d (g .owner p)) 65537) refl le)
   | no n ↦ rw (ne-eqb r (g .owner p) n)
 ])
 
@@ -29,8 +29,9 @@ module _ (rules : ℕ) (owners starts symbols costs : List ℕ) (p : ℕ) (cost 
   abbrev g : Flat
   g = flat rules owners starts symbols costs
 
-  pub lower-sums : Summable symbols costs a e cost read
-  lower-sums = record {
+  pub lower-sums : (old top : ℕ) → top ≡ min old 65537 → Summable symbols costs a e cost top read
+  lower-sums old top et = record {
+    upto = omega arith;
     pricing = pricing rules owners starts symbols costs p cost (ok .ready) o a e h;
     few = omega (arith, ok .ready .long, ok .ready .well .sizes .rules-high);
     long = ok .long;
@@ -40,15 +41,15 @@ module _ (rules : ℕ) (owners starts symbols costs : List ℕ) (p : ℕ) (cost 
   lower-owner = owner-in rules owners starts symbols costs p cost (ok .ready) o a e h
 
   pub lower-few : o < 512
-  lower-few = omega (arith, lower-owner, lower-sums .few)
+  lower-few = omega (arith, lower-owner, ok .ready .long, ok .ready .well .sizes .rules-high)
 
   -- production p is calm where the sum by d does not come below its owner's entry
-  quiet : (c d : Costs) (top : ℕ) → d o ≤ c o → min (c o) 65536 ≤ top → top ≤ formCost (at costs) d (form symbols a e) → costVisit (denoted g) (price g) p d ≡ d
+  quiet : (c d : Costs) (top : ℕ) → d o ≤ c o → min (c o) 65537 ≤ top → top ≤ sumCost (at costs) d (form symbols a e) → costVisit (denoted g) (price g) p d ≡ d
   quiet c d top le lt k =
       let q = placed _ (ok .ready .well) p (ok .ready .isProd) o a e h in
       still (denoted g) (price g) p d (rw (← (h .owner), q .body) (omega arith))
 
-  module _ (old top : ℕ) (eo : old ≡ at cost o) (et : top ≡ min old 65536) where
+  module _ (old top : ℕ) (eo : old ≡ at cost o) (et : top ≡ min old 65537) where
     held : costsOf cost o ≡ old
     held = entry cost o lower-owner ∙ sym eo
 
@@ -63,7 +64,7 @@ module _ (rules : ℕ) (owners starts symbols costs : List ℕ) (p : ℕ) (cost 
     }
 
     module _ (s : ℕ) (read′ : List Bool) (sums : ReadsSum top costs cost (form symbols a e) read s read′) where
-      told : s ≡ min (formCost (at costs) (costsOf cost) (form symbols a e)) top
+      told : s ≡ min (sumCost (at costs) (costsOf cost) (form symbols a e)) top
       told = sym (sums .same (costsOf cost) (λ r k. refl))
 
       -- the sum comes to it
@@ -80,11 +81,11 @@ module _ (rules : ℕ) (owners starts symbols costs : List ℕ) (p : ℕ) (cost 
       module _ (k : s < top) (late : Bool) (el : late ≡ getD read′ o false) where
         now : costsOf (set cost o s) o ≡ s
         unfolding costsOf
-        now = getD-set-same cost o s 65536 lower-owner
+        now = getD-set-same cost o s 65537 lower-owner
 
         others : late ≡ false → Agrees read′ (costsOf (set cost o s)) (costsOf cost)
         unfolding costsOf
-        others t r b = getD-set-other cost o r s 65536 (λ z. true≢false (sym b ∙ ap (λ z. getD read′ z false) z ∙ sym el ∙ t))
+        others t r b = getD-set-other cost o r s 65537 (λ z. true≢false (sym b ∙ ap (λ z. getD read′ z false) z ∙ sym el ∙ t))
 
         pub lowers-new : Lowers g p cost read true late (set cost o s) read′
         lowers-new = record {

@@ -1,18 +1,17 @@
 -- The sum of a stretch that marks what it reads: by each table that agrees on what was read it is the same.
 use mathlib.Core.Bool.{Bool, true, false}
 use mathlib.Core.List.{List}
-use mathlib.Core.Path.{_≡_, refl, ap, _∙_}
-use Prim.Native.Nat.{ℕ, _+_, _-_, _≤_, _<_}
+use mathlib.Core.Path.{_≡_, refl, sym, ap, _∙_}
+use Prim.Native.Nat.{ℕ, _+_, _-_, _≤_, _<_, min}
 use native.Mathlib.Decide.{ℕ-discrete}
 use native.Mathlib.Omega.{arith}
 use lib.ListN.{length, getD, set, length-set}
 use lib.Seq.{getD-set-same, getD-set-other}
-use Rattle.theory.specs.Visits.{Costs, formCost}
-use Rattle.grammar.specs.Flat.{at, symbol, form}
-use Rattle.grammar.proofs.Forms.{form-done, form-more, symbol-token, symbol-rule}
+use Rattle.theory.specs.Visits.{Costs}
+use Rattle.grammar.specs.Flat.{at, form}
 use Rattle.costs.specs.Lent.{costsOf}
 use Rattle.costs.specs.Reads.{Agrees, Adds, Readable, ReadsCost, Summable, ReadsSum}
-use Rattle.costs.proofs.Summing.{entry, form-cons}
+use Rattle.costs.proofs.Summing.{entry, token-part, rule-part, Summed, summed-start, summed-end, summed-least, summed-unknown, summed-on}
 
 pub adds-none : (read : List Bool) → Adds read read
 adds-none read = record { long = refl; keeps = λ r e. e }
@@ -34,8 +33,8 @@ module _ (costs cost : List ℕ) (s : ℕ) (read : List Bool) (ok : Readable cos
     pub read-token : x < length costs
     read-token = omega (arith, ok .priced .token low)
 
-    pub reads-token : (n : ℕ) → n ≡ at costs x → ReadsCost costs cost s read n read
-    reads-token n e = record { adds = adds-none read; same = λ d a. rw (symbol-token s low) (omega (arith, e ∙ ap (at costs) ex)) }
+    pub reads-token : (n : ℕ) → n ≡ at costs x → n < 256 → ReadsCost costs cost s read n read
+    reads-token n e l = record { adds = adds-none read; same = λ d a. token-part (at costs) d s n low (e ∙ ap (at costs) ex) (omega arith) }
 
   module _ (high : 32768 ≤ s) (ex : x ≡ s - 32768) where
     pub read-rule : x < length cost
@@ -50,27 +49,26 @@ module _ (costs cost : List ℕ) (s : ℕ) (read : List Bool) (ok : Readable cos
     pub reads-rule : (n : ℕ) → n ≡ at cost x → ReadsCost costs cost s read n (set read x true)
     reads-rule n e = record {
       adds = adds-one read x read-place;
-      same = λ d a. rw (symbol-rule s high, ← ex) (omega (arith, a x (getD-set-same read x true false read-place), entry cost x read-rule, e));
+      same = λ d a. rule-part (at costs) d s n high (e ∙ sym (entry cost x read-rule) ∙ sym (a x (getD-set-same read x true false read-place)) ∙ ap d ex);
     }
 
 -- at symbol i: n is the sum so far, at most `top`, by each table that agrees on what is read by now
 pub record SummedRead (symbols costs : List ℕ) (a e : ℕ) (cost : List ℕ) (read : List Bool) (top i n : ℕ) (now : List Bool) : Type 0 where
-  pub low : a ≤ i
-  pub high : i ≤ e
   pub cap : n ≤ top
+  pub upto : n ≤ 65536
   pub adds : Adds read now
-  pub rest : (d : Costs) → Agrees now d (costsOf cost) → formCost (at costs) d (form symbols a e) ≡ n + formCost (at costs) d (form symbols i e)
+  pub sums : (d : Costs) → Agrees now d (costsOf cost) → Summed (at costs) d symbols a e i n
 
 -- `sum_to`
-module _ (symbols costs : List ℕ) (a e : ℕ) (cost : List ℕ) (read : List Bool) (top : ℕ) (ok : Summable symbols costs a e cost read) where
+module _ (symbols costs : List ℕ) (a e : ℕ) (cost : List ℕ) (read : List Bool) (top : ℕ) (ok : Summable symbols costs a e cost top read) where
   pub reading-start : SummedRead symbols costs a e cost read top a 0 read
-  reading-start = record { low = omega arith; high = ok .pricing .rise; cap = omega arith; adds = adds-none read; rest = λ d g. omega arith }
+  reading-start = record { cap = omega arith; upto = omega arith; adds = adds-none read; sums = λ d g. summed-start (at costs) d symbols a e (ok .pricing .rise) (ok .pricing .fits) }
 
   module _ (i n : ℕ) (now : List Bool) (m : SummedRead symbols costs a e cost read top i n now) where
     pub reading-end : e ≤ i → ReadsSum top costs cost (form symbols a e) read n now
     reading-end h = record {
       adds = m .adds;
-      same = λ d g. omega (arith, m .cap, m .rest d g ∙ ap (λ z. n + formCost (at costs) d z) (form-done symbols i e (m .high) h));
+      same = λ d g. omega (arith, m .cap, summed-end (at costs) d symbols a e (ok .pricing .rise) (ok .pricing .fits) i n (m .sums d g) h);
     }
 
     module _ (h : i < e) where
@@ -78,14 +76,25 @@ module _ (symbols costs : List ℕ) (a e : ℕ) (cost : List ℕ) (read : List B
       reading-ready = record { priced = ok .pricing .symbol i (omega (arith, ok .pricing .fits)); few = ok .few; long = m .adds .long ∙ ok .long }
 
       module _ (x : ℕ) (next : List Bool) (c : ReadsCost costs cost (at symbols i) now x next) where
-        left : (d : Costs) → Agrees next d (costsOf cost) → formCost (at costs) d (form symbols a e) ≡ n + x + formCost (at costs) d (form symbols (i + 1) e)
-        left d g =
-            let f = form-cons (at costs) d (symbol (at symbols i)) (form symbols (i + 1) e) in
-            let k = m .rest d (λ r z. g r (c .adds .keeps r z)) ∙ ap (λ z. n + formCost (at costs) d z) (form-more symbols i e h (ok .pricing .fits)) in
-            omega (arith, k, f, c .same d g)
+        before : (d : Costs) → Agrees next d (costsOf cost) → Summed (at costs) d symbols a e i n
+        before d g = m .sums d (λ r z. g r (c .adds .keeps r z))
 
-        pub reading-over : top - n ≤ x → ReadsSum top costs cost (form symbols a e) read top next
-        reading-over k = record { adds = adds-then (m .adds) (c .adds); same = λ d g. omega (arith, left d g, m .cap) }
+        pub reading-unknown : 65536 < x → ReadsSum top costs cost (form symbols a e) read top next
+        reading-unknown k = record {
+          adds = adds-then (m .adds) (c .adds);
+          same = λ d g. omega (arith, ok .upto, summed-unknown (at costs) d symbols a e (ok .pricing .rise) (ok .pricing .fits) i n (before d g) h x (c .same d g) k);
+        }
 
-        pub reading-on : x < top - n → SummedRead symbols costs a e cost read top (i + 1) (n + x) next
-        reading-on k = record { low = omega (arith, m .low); high = omega arith; cap = omega (arith, m .cap); adds = adds-then (m .adds) (c .adds); rest = left }
+        module _ (k : x ≤ 65536) where
+          module _ (to : ℕ) (q : to ≡ min (n + x) 65536) where
+            after : (d : Costs) → Agrees next d (costsOf cost) → Summed (at costs) d symbols a e (i + 1) to
+            after d g = summed-on (at costs) d symbols a e (ok .pricing .rise) (ok .pricing .fits) i n (before d g) h x (c .same d g) k to q
+
+            pub reading-over : top ≤ to → ReadsSum top costs cost (form symbols a e) read top next
+            reading-over l = record {
+              adds = adds-then (m .adds) (c .adds);
+              same = λ d g. omega (arith, summed-least (at costs) d symbols a e (ok .pricing .rise) (ok .pricing .fits) (i + 1) to (after d g));
+            }
+
+            pub reading-on : to < top → SummedRead symbols costs a e cost read top (i + 1) to next
+            reading-on l = record { cap = omega arith; upto = omega arith; adds = adds-then (m .adds) (c .adds); sums = after }

@@ -1,15 +1,16 @@
 -- COST: the rules that a round has read, and productions whose visit would change nothing as long as what was read stays.
 use mathlib.Core.Bool.{Bool, true, false}
-use mathlib.Core.List.{List, [], _∷_}
+use mathlib.Core.List.{List}
 use mathlib.Core.Path.{_≡_}
 use Prim.Native.Nat.{ℕ, _≤_, min}
 use lib.ListN.{length, getD}
+use Rattle.theory.specs.Entries.{costUnknown}
 use Rattle.theory.specs.Grammar.{Form}
 use Rattle.theory.specs.Rounds.{Rest}
-use Rattle.theory.specs.Visits.{Costs, formCost, costVisit}
-use Rattle.grammar.specs.Flat.{Flat, at, symbol, denoted, price}
+use Rattle.theory.specs.Visits.{Costs, sumCost, costVisit}
+use Rattle.grammar.specs.Flat.{Flat, at, denoted, price}
 use Rattle.tables.specs.Call.{Stepped}
-use Rattle.costs.specs.Lent.{costsOf}
+use Rattle.costs.specs.Lent.{costsOf, Part}
 use Rattle.costs.specs.Step.{SymbolPriced, Pricing, CostReady, CostBecame}
 use Rattle.costs.specs.Rounds.{CostRounds}
 
@@ -28,13 +29,14 @@ pub record Readable (costs cost : List ℕ) (s : ℕ) (read : List Bool) : Type 
   pub few : length cost ≤ 512
   pub long : length read ≡ 512
 
--- symbol s costs x by each table that agrees on what is read then
+-- symbol s adds x by each table that agrees on what is read then
 pub record ReadsCost (costs cost : List ℕ) (s : ℕ) (read : List Bool) (x : ℕ) (read′ : List Bool) : Type 0 where
   pub adds : Adds read read′
-  pub same : (d : Costs) → Agrees read′ d (costsOf cost) → formCost (at costs) d (symbol s ∷ []) ≡ x
+  pub same : (d : Costs) → Agrees read′ d (costsOf cost) → Part (at costs) d s x
 
 -- what it takes to read the symbols from a up to e
-pub record Summable (symbols costs : List ℕ) (a e : ℕ) (cost : List ℕ) (read : List Bool) : Type 0 where
+pub record Summable (symbols costs : List ℕ) (a e : ℕ) (cost : List ℕ) (top : ℕ) (read : List Bool) : Type 0 where
+  pub upto : top ≤ costUnknown
   pub pricing : Pricing symbols costs a e cost
   pub few : length cost ≤ 512
   pub long : length read ≡ 512
@@ -42,7 +44,7 @@ pub record Summable (symbols costs : List ℕ) (a e : ℕ) (cost : List ℕ) (re
 -- the sum of a form, or `top` where it comes to that, is x by each table that agrees on what is read then
 pub record ReadsSum (top : ℕ) (costs cost : List ℕ) (α : Form) (read : List Bool) (x : ℕ) (read′ : List Bool) : Type 0 where
   pub adds : Adds read read′
-  pub same : (d : Costs) → Agrees read′ d (costsOf cost) → min (formCost (at costs) d α) top ≡ x
+  pub same : (d : Costs) → Agrees read′ d (costsOf cost) → min (sumCost (at costs) d α) top ≡ x
 
 -- production p's visit changes no table that has c's entries of what was read, and no entry above c's
 abbrev pub Calm : Flat → ℕ → List Bool → Costs → Type 0

@@ -1,8 +1,9 @@
 -- The fields of a line, one after the other.
-use mathlib.Core.Bool.{Bool, true, false}
+use mathlib.Core.Bool.{Bool}
 use mathlib.Core.List.{List, [], _∷_, _++_, append-assoc, append-nil}
 use mathlib.Core.Path.{_≡_, refl, sym, ap, subst}
 use Prim.Native.Nat.{ℕ, _+_, _≤_, _<_}
+use native.Mathlib.Decide.{decLe}
 use native.Mathlib.Omega.{arith}
 use lib.ListN.{length, length-append}
 use Rattle.lines.specs.Text.{decimal, after, between, spaced}
@@ -90,51 +91,50 @@ module _ (r : ℕ) (e : Bool) (ws : List ℕ) (from : ℕ) where
   front-made w1 w2 w3 to a b c m f q x y z v = parts-made ws from _ (decimal r) _ (front-is f q) w1 to a m x (appended-then y (appended-then z v))
 
 -- `price`
-pub amount-is : (p : Bool) (n : ℕ) → n ≤ 65535 → priced (priceOf p n) ≡ decimal n
+pub amount-is : (n : ℕ) → n ≤ 65535 → priced (priceOf n) ≡ decimal n
 unfolding priced
-amount-is p n l = ap priced (price-amount p n l)
+amount-is n l = ap priced (price-amount n l)
 
-pub dear-is : (p : Bool) (n : ℕ) → 65535 < n → p ≡ true → priced (priceOf p n) ≡ dearWord
+pub dear-is : (n : ℕ) → 65535 < n → n ≤ 65536 → priced (priceOf n) ≡ dearWord
 unfolding priced
-dear-is p n l e = ap priced (price-dear p n l e)
+dear-is n l e = ap priced (price-dear n l e)
 
-pub none-is : (p : Bool) (n : ℕ) → 65535 < n → p ≡ false → priced (priceOf p n) ≡ noneWord
+pub none-is : (n : ℕ) → 65535 < n → 65536 < n → priced (priceOf n) ≡ noneWord
 unfolding priced
-none-is p n l e = ap priced (price-none p n l e)
+none-is n l e = ap priced (price-none n l e)
 
 -- either word has four bytes
-pub word-long : (p : Bool) (n : ℕ) → 65535 < n → length (priced (priceOf p n)) ≡ 4
-word-long true n l = ap length (dear-is true n l refl)
-word-long false n l = ap length (none-is false n l refl)
+pub word-long : (n : ℕ) → 65535 < n → length (priced (priceOf n)) ≡ 4
+word-long n l = elim (decLe n 65536) [ yes m ↦ ap length (dear-is n l m) | no m ↦ ap length (none-is n l (omega arith)) ]
 
-module _ (p : Bool) (n : ℕ) (ws : List ℕ) (from : ℕ) where
-  pub amount-room : n ≤ 65535 → Room ws from (priced (priceOf p n)) → Room ws from (decimal n)
-  amount-room l r = subst (λ bs. Room ws from bs) (amount-is p n l) r
+module _ (n : ℕ) (ws : List ℕ) (from : ℕ) where
+  pub amount-room : n ≤ 65535 → Room ws from (priced (priceOf n)) → Room ws from (decimal n)
+  amount-room l r = subst (λ bs. Room ws from bs) (amount-is n l) r
 
-  pub amount-made : n ≤ 65535 → (to : List ℕ) (m : ℕ) → Appended ws from (decimal n) to m → Appended ws from (priced (priceOf p n)) to m
-  amount-made l to m x = subst (λ bs. Appended ws from bs to m) (sym (amount-is p n l)) x
+  pub amount-made : n ≤ 65535 → (to : List ℕ) (m : ℕ) → Appended ws from (decimal n) to m → Appended ws from (priced (priceOf n)) to m
+  amount-made l to m x = subst (λ bs. Appended ws from bs to m) (sym (amount-is n l)) x
 
   module _ (l : 65535 < n) where
-    pub word-room : (bytes : List ℕ) → length bytes ≤ 4 → Room ws from (priced (priceOf p n)) → Room ws from bytes
-    word-room bytes k r = record { fits = omega (arith, r .fits, word-long p n l) }
+    pub word-room : (bytes : List ℕ) → length bytes ≤ 4 → Room ws from (priced (priceOf n)) → Room ws from bytes
+    word-room bytes k r = record { fits = omega (arith, r .fits, word-long n l) }
 
-    pub dear-made : p ≡ true → (to : List ℕ) (m : ℕ) → Appended ws from dearWord to m → Appended ws from (priced (priceOf p n)) to m
-    dear-made e to m x = subst (λ bs. Appended ws from bs to m) (sym (dear-is p n l e)) x
+    pub dear-made : n ≤ 65536 → (to : List ℕ) (m : ℕ) → Appended ws from dearWord to m → Appended ws from (priced (priceOf n)) to m
+    dear-made e to m x = subst (λ bs. Appended ws from bs to m) (sym (dear-is n l e)) x
 
-    pub none-made : p ≡ false → (to : List ℕ) (m : ℕ) → Appended ws from noneWord to m → Appended ws from (priced (priceOf p n)) to m
-    none-made e to m x = subst (λ bs. Appended ws from bs to m) (sym (none-is p n l e)) x
+    pub none-made : 65536 < n → (to : List ℕ) (m : ℕ) → Appended ws from noneWord to m → Appended ws from (priced (priceOf n)) to m
+    none-made e to m x = subst (λ bs. Appended ws from bs to m) (sym (none-is n l e)) x
 
 -- `back`
-module _ (p : Bool) (n : ℕ) (ws : List ℕ) (from : ℕ) where
-  back-is : backOf (priceOf p n) ≡ priced (priceOf p n) ++ (10 ∷ [])
+module _ (n : ℕ) (ws : List ℕ) (from : ℕ) where
+  back-is : backOf (priceOf n) ≡ priced (priceOf n) ++ (10 ∷ [])
   unfolding backOf
   back-is = refl
 
-  pub back-price : Room ws from (backOf (priceOf p n)) → Room ws from (priced (priceOf p n))
-  back-price = part-front ws from _ (priced (priceOf p n)) (10 ∷ []) back-is
+  pub back-price : Room ws from (backOf (priceOf n)) → Room ws from (priced (priceOf n))
+  back-price = part-front ws from _ (priced (priceOf n)) (10 ∷ []) back-is
 
-  pub back-feed : (to bytes : List ℕ) (m : ℕ) → length bytes ≤ 1 → Room ws from (backOf (priceOf p n)) → Appended ws from (priced (priceOf p n)) to m → Room to m bytes
-  back-feed to bytes m l r x = room-after ws (backOf (priceOf p n)) to (priced (priceOf p n)) bytes from m r x (omega (arith, ap length back-is, length-append (priced (priceOf p n)) (10 ∷ [])))
+  pub back-feed : (to bytes : List ℕ) (m : ℕ) → length bytes ≤ 1 → Room ws from (backOf (priceOf n)) → Appended ws from (priced (priceOf n)) to m → Room to m bytes
+  back-feed to bytes m l r x = room-after ws (backOf (priceOf n)) to (priced (priceOf n)) bytes from m r x (omega (arith, ap length back-is, length-append (priced (priceOf n)) (10 ∷ [])))
 
-  pub back-made : (mid to : List ℕ) (k m : ℕ) → Appended ws from (priced (priceOf p n)) mid k → Appended mid k (10 ∷ []) to m → Appended ws from (backOf (priceOf p n)) to m
-  back-made = parts-made ws from _ (priced (priceOf p n)) (10 ∷ []) back-is
+  pub back-made : (mid to : List ℕ) (k m : ℕ) → Appended ws from (priced (priceOf n)) mid k → Appended mid k (10 ∷ []) to m → Appended ws from (backOf (priceOf n)) to m
+  back-made = parts-made ws from _ (priced (priceOf n)) (10 ∷ []) back-is

@@ -73,15 +73,15 @@ pub front-long : (r : ℕ) (e : Bool) → r < 512 → length (frontOf r e) ≤ 6
 unfolding frontOf
 front-long r e l = omega (arith, three-digits r (omega arith), length-append (decimal r) (44 ∷ flag e ∷ 44 ∷ []))
 
-price-long : (p : Bool) (n : ℕ) → length (priced (priceOf p n)) ≤ 5
-price-long p n = elim (decLe n 65535) [
-  | yes l ↦ omega (arith, ap length (amount-is p n l), five-digits n (omega arith))
-  | no l ↦ omega (arith, word-long p n (omega arith))
+price-long : (n : ℕ) → length (priced (priceOf n)) ≤ 5
+price-long n = elim (decLe n 65535) [
+  | yes l ↦ omega (arith, ap length (amount-is n l), five-digits n (omega arith))
+  | no l ↦ omega (arith, word-long n (omega arith))
 ]
 
-pub back-long : (p : Bool) (n : ℕ) → length (backOf (priceOf p n)) ≤ 6
+pub back-long : (n : ℕ) → length (backOf (priceOf n)) ≤ 6
 unfolding backOf
-back-long p n = omega (arith, price-long p n, length-append (priced (priceOf p n)) (10 ∷ []))
+back-long n = omega (arith, price-long n, length-append (priced (priceOf n)) (10 ∷ []))
 
 pub line-long : (R T r : ℕ) (l : Tables) → R ≤ 512 → T ≤ 512 → r < R → length (lineOf (entryOf R T r l)) ≤ 3888
 unfolding setsOf
@@ -93,7 +93,7 @@ line-long R T r l lr lt k =
       front-long r (e .empty) (omega arith),
       row-long (mark (words T) (l .first) r) T lt,
       row-long (mark (words T) (l .follow) r) T lt,
-      back-long (mark (words R) (l .productive) 0 r) (at (l .cost) r),
+      back-long (at (l .cost) r),
       length-append (frontOf (e .number) (e .empty)) (setsOf (e .first) (e .follow) ++ backOf (e .cost)),
       length-append (setsOf (e .first) (e .follow)) (backOf (e .cost)),
       length-append (rowWith (e .first)) (rowWith (e .follow)),

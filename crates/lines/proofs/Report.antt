@@ -7,9 +7,9 @@ use Rattle.lines.specs.Text.{places, decimal, members, after, between, s
 use Rattle.lines.specs.Line.{priceOf, priced, lineOf, headingOf}
 use Rattle.lines.specs.Lent.{Tables, tables, entryOf}
 
--- EMPTY of rules 2 and 3; FIRST {0, 2}, {0, 2}, {2}, {1}; FOLLOW {3}, {3}, {0}, {3}; every rule PRODUCTIVE; COST 1, 1, 0, 0
+-- EMPTY of rules 2 and 3; FIRST {0, 2}, {0, 2}, {2}, {1}; FOLLOW {3}, {3}, {0}, {3}; COST 1, 1, 0, 0
 abbrev G1 : Tables
-G1 = tables (12 ∷ []) (5 ∷ 5 ∷ 4 ∷ 2 ∷ []) (8 ∷ 8 ∷ 1 ∷ 8 ∷ []) (15 ∷ []) (1 ∷ 1 ∷ 0 ∷ 0 ∷ [])
+G1 = tables (12 ∷ []) (5 ∷ 5 ∷ 4 ∷ 2 ∷ []) (8 ∷ 8 ∷ 1 ∷ 8 ∷ []) (1 ∷ 1 ∷ 0 ∷ 0 ∷ [])
 
 -- the line of rule r
 abbrev g1Line : ℕ → List ℕ

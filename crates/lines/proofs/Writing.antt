@@ -25,7 +25,7 @@ in-table R T W r table e l h = record {
   within = rw (e, h) (omega (arith, mul-le-mul-right (words T) l));
 }
 
-module _ (R T r : ℕ) (empty first follow productive cost ws : List ℕ) (x : Ready R T r (tables empty first follow productive cost) ws) where
+module _ (R T r : ℕ) (empty first follow cost ws : List ℕ) (x : Ready R T r (tables empty first follow cost) ws) where
   pub write-first : (W : ℕ) → W ≡ words T → Row T W first r
   write-first W e = in-table R T W r first e (x .rule) (x .first)
 
@@ -48,12 +48,12 @@ module _ (R T r : ℕ) (empty first follow productive cost ws : List ℕ) (x : R
       pub write-sets : Room w1 a (setsOf (members T f) (members T h))
       write-sets = record { fits = omega (arith, after-front, sets-long) }
 
-      pub write-back : (w2 : List ℕ) (d : ℕ) → Appended w1 a (setsOf (members T f) (members T h)) w2 d → (on : Bool) (n : ℕ) → Room w2 d (backOf (priceOf on n))
-      write-back w2 d z on n = record { fits = omega (arith, after-front, appended-long z, z .next, sets-long, back-long on n) }
+      pub write-back : (w2 : List ℕ) (d : ℕ) → Appended w1 a (setsOf (members T f) (members T h)) w2 d → (n : ℕ) → Room w2 d (backOf (priceOf n))
+      write-back w2 d z n = record { fits = omega (arith, after-front, appended-long z, z .next, sets-long, back-long n) }
 
-  module _ (w : ℕ) (ew : w ≡ words R) (b : Bool) (eb : b ≡ mark w empty 0 r) (W : ℕ) (eW : W ≡ words T) (on : Bool) (eo : on ≡ mark w productive 0 r) (n : ℕ) (en : n ≡ at cost r) where
-    line-is : lineOf (entryOf R T r (tables empty first follow productive cost)) ≡ frontOf r b ++ (setsOf (rowOf T W first r) (rowOf T W follow r) ++ backOf (priceOf on n))
-    line-is = line-parts (entryOf R T r (tables empty first follow productive cost)) ∙ sym (rw (eb, eo, ew, eW, en))
+  module _ (w : ℕ) (ew : w ≡ words R) (b : Bool) (eb : b ≡ mark w empty 0 r) (W : ℕ) (eW : W ≡ words T) (n : ℕ) (en : n ≡ at cost r) where
+    line-is : lineOf (entryOf R T r (tables empty first follow cost)) ≡ frontOf r b ++ (setsOf (rowOf T W first r) (rowOf T W follow r) ++ backOf (priceOf n))
+    line-is = line-parts (entryOf R T r (tables empty first follow cost)) ∙ sym (rw (eb, ew, eW, en))
 
-    pub write-made : (w1 w2 to : List ℕ) (a d m : ℕ) → Appended ws 0 (frontOf r b) w1 a → Appended w1 a (setsOf (rowOf T W first r) (rowOf T W follow r)) w2 d → Appended w2 d (backOf (priceOf on n)) to m → Appended ws 0 (lineOf (entryOf R T r (tables empty first follow productive cost))) to m
+    pub write-made : (w1 w2 to : List ℕ) (a d m : ℕ) → Appended ws 0 (frontOf r b) w1 a → Appended w1 a (setsOf (rowOf T W first r) (rowOf T W follow r)) w2 d → Appended w2 d (backOf (priceOf n)) to m → Appended ws 0 (lineOf (entryOf R T r (tables empty first follow cost))) to m
     write-made w1 w2 to a d m y z v = parts-made ws 0 _ (frontOf r b) _ line-is w1 to a m y (appended-then z v)

@@ -11,21 +11,20 @@ use Rattle.tables.specs.Sizes.{words, tableWrong, rowWrong, numbersWrong}
 use Rattle.lines.specs.Text.{members}
 use Rattle.lines.specs.Line.{Entry, priceOf}
 
--- EMPTY, FIRST, mode 2 FOLLOW, PRODUCTIVE and COST
+-- EMPTY, FIRST, mode 2 FOLLOW and COST
 pub record Tables : Type 0 where
   pub empty : List ℕ
   pub first : List ℕ
   pub follow : List ℕ
-  pub productive : List ℕ
   pub cost : List ℕ
 
--- the five together
-abbrev pub tables : (empty first follow productive cost : List ℕ) → Tables
-tables empty first follow productive cost = record { empty = empty; first = first; follow = follow; productive = productive; cost = cost }
+-- the four together
+abbrev pub tables : (empty first follow cost : List ℕ) → Tables
+tables empty first follow cost = record { empty = empty; first = first; follow = follow; cost = cost }
 
 -- 7: a lent table is not of its exact length
 unfoldable pub tablesWrong : (R T : ℕ) → Tables → Bool
-tablesWrong R T l = rowWrong R (l .empty) || (tableWrong R T (l .first) || (tableWrong R T (l .follow) || (rowWrong R (l .productive) || numbersWrong R (l .cost))))
+tablesWrong R T l = rowWrong R (l .empty) || (tableWrong R T (l .first) || (tableWrong R T (l .follow) || numbersWrong R (l .cost)))
 
 -- 7: the lent room is not 4096 bytes long
 unfoldable pub outWrong : List ℕ → Bool
@@ -38,7 +37,7 @@ entryOf R T r l = record {
   empty = mark (words R) (l .empty) 0 r;
   first = members T (mark (words T) (l .first) r);
   follow = members T (mark (words T) (l .follow) r);
-  cost = priceOf (mark (words R) (l .productive) 0 r) (at (l .cost) r);
+  cost = priceOf (at (l .cost) r);
 }
 
 -- what writing a line asks: the limits, one of the rules, tables of their exact lengths, and room of 4096 bytes
@@ -49,6 +48,5 @@ pub record Ready (R T r : ℕ) (l : Tables) (out : List ℕ) : Type 0 where
   pub empty : length (l .empty) ≡ words R
   pub first : length (l .first) ≡ R * words T
   pub follow : length (l .follow) ≡ R * words T
-  pub productive : length (l .productive) ≡ words R
   pub cost : length (l .cost) ≡ R
   pub room : length out ≡ 4096

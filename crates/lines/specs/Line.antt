@@ -3,6 +3,7 @@ use mathlib.Core.Bool.{Bool, cond}
 use mathlib.Core.List.{List, [], _∷_, _++_}
 use Prim.Native.Nat.{ℕ}
 use lib.Dec.{leb}
+use Rattle.theory.specs.Entries.{costMax, costDear}
 use Rattle.lines.specs.Text.{digit, decimal, between, spaced}
 
 -- the last field: a cost, or `none` or `dear` (refusals 12, 13)
@@ -36,9 +37,9 @@ priced (amount n) = decimal n
 priced none = noneWord
 priced dear = dearWord
 
--- the last field: an entry of at most 65535 is the cost; else `dear` if the rule is marked PRODUCTIVE, and `none` if not
-unfoldable pub priceOf : Bool → ℕ → Price
-priceOf productive n = cond (leb n 65535) (amount n) (cond productive dear none)
+-- the last field, from COST's entry: the cost, `dear`, or `none` where none is known
+unfoldable pub priceOf : ℕ → Price
+priceOf n = cond (leb n costMax) (amount n) (cond (leb n costDear) dear none)
 
 -- a line for a rule, with commas, 44, between its five fields; each line ends in a line feed, 10
 unfoldable pub lineOf : Entry → List ℕ

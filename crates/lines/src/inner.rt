@@ -1,4 +1,6 @@
 // Below the public calls: each appends its bytes from place `at` of a lent buffer on, and answers the place after them.
+use costs::COST_DEAR;
+use costs::COST_MAX;
 use costs::inner::entry_at;
 use rows::inner::is_set;
 use tables::inner::numbers_wrong;
@@ -137,25 +139,25 @@ fn front(r: usize, empty: bool, out: &mut [u8], at: usize) -> usize
     copy(b",", out, c)
 }
 
-fn price(productive: bool, entry: u32, out: &mut [u8], at: usize) -> usize
-    requires { ⌜ Room (now out) at (priced (priceOf productive entry)) ⌝ }
-    ensures { λ r. ⌜ Appended (now (out .entry)) at (priced (priceOf productive entry)) (now (out .exit)) r ⌝ }
+fn price(entry: u32, out: &mut [u8], at: usize) -> usize
+    requires { ⌜ Room (now out) at (priced (priceOf entry)) ⌝ }
+    ensures { λ r. ⌜ Appended (now (out .entry)) at (priced (priceOf entry)) (now (out .exit)) r ⌝ }
 {
-    if entry <= 65535 {
+    if entry <= COST_MAX {
         return number(entry as usize, out, at);
     }
-    if productive {
+    if entry <= COST_DEAR {
         return copy(b"dear", out, at);
     }
     copy(b"none", out, at)
 }
 
 // The cost, `dear` or `none`, and the line feed.
-fn back(productive: bool, entry: u32, out: &mut [u8], at: usize) -> usize
-    requires { ⌜ Room (now out) at (backOf (priceOf productive entry)) ⌝ }
-    ensures { λ r. ⌜ Appended (now (out .entry)) at (backOf (priceOf productive entry)) (now (out .exit)) r ⌝ }
+fn back(entry: u32, out: &mut [u8], at: usize) -> usize
+    requires { ⌜ Room (now out) at (backOf (priceOf entry)) ⌝ }
+    ensures { λ r. ⌜ Appended (now (out .entry)) at (backOf (priceOf entry)) (now (out .exit)) r ⌝ }
 {
-    let next = price(productive, entry, out, at);
+    let next = price(entry, out, at);
     copy(b"\n", out, next)
 }
 
@@ -167,37 +169,32 @@ pub fn write(
     empty: &[u32],
     first: &[u32],
     follow: &[u32],
-    productive: &[u32],
     cost: &[u32],
     out: &mut [u8],
 ) -> usize
-    requires { ⌜ Ready rules tokens r (tables (now empty) (now first) (now follow) (now productive) (now cost)) (now out) ⌝ }
-    ensures { λ res. ⌜ Appended (now (out .entry)) 0 (lineOf (entryOf rules tokens r (tables (now (empty .entry)) (now (first .entry)) (now (follow .entry)) (now (productive .entry)) (now (cost .entry))))) (now (out .exit)) res ⌝ }
+    requires { ⌜ Ready rules tokens r (tables (now empty) (now first) (now follow) (now cost)) (now out) ⌝ }
+    ensures { λ res. ⌜ Appended (now (out .entry)) 0 (lineOf (entryOf rules tokens r (tables (now (empty .entry)) (now (first .entry)) (now (follow .entry)) (now (cost .entry))))) (now (out .exit)) res ⌝ }
 {
-    let w = words_for(rules);
-    let a = front(r, is_set(empty, w, 0, r), out, 0);
+    let a = front(r, is_set(empty, words_for(rules), 0, r), out, 0);
     let b = sets(first, follow, words_for(tokens), r, tokens, out, a);
-    let on = is_set(productive, w, 0, r);
-    back(on, entry_at(cost, r), out, b)
+    back(entry_at(cost, r), out, b)
 }
 
-// Refusal 7 for the five tables.
+// Refusal 7 for the four tables.
 pub fn tables_wrong(
     rules: usize,
     tokens: usize,
     empty: &[u32],
     first: &[u32],
     follow: &[u32],
-    productive: &[u32],
     cost: &[u32],
 ) -> bool
     requires { ⌜ (rules ≤ 512) × (tokens ≤ 512) ⌝ }
-    ensures { λ r. ⌜ r ≡ tablesWrong rules tokens (tables (now (empty .entry)) (now (first .entry)) (now (follow .entry)) (now (productive .entry)) (now (cost .entry))) ⌝ }
+    ensures { λ r. ⌜ r ≡ tablesWrong rules tokens (tables (now (empty .entry)) (now (first .entry)) (now (follow .entry)) (now (cost .entry))) ⌝ }
 {
     row_wrong(rules, empty)
         | (table_wrong(rules, tokens, first)
-            | (table_wrong(rules, tokens, follow)
-                | (row_wrong(rules, productive) | numbers_wrong(rules, cost))))
+            | (table_wrong(rules, tokens, follow) | numbers_wrong(rules, cost)))
 }
 
 // Refusal 7 for the room.

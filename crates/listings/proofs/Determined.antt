@@ -9,7 +9,7 @@ use Rattle.grammar.specs.Flat.{Flat, denoted, price}
 use Rattle.grammar.specs.Outcome.{Outcome, answers, refused}
 use Rattle.tables.proofs.Calls.{Both, call-one, told-apart}
 use Rattle.costs.specs.Lent.{costsOf}
-use Rattle.costs.proofs.Determined.{productive-defined-one, cost-defined-one}
+use Rattle.costs.proofs.Determined.{cost-defined-one}
 use Rattle.sentences.specs.declared.Length.{Length as Answer}
 use Rattle.listings.specs.declared.Counted.{Counted}
 use Rattle.listings.specs.declared.Counted.the-variants.{Are, Refused as Not}
@@ -30,11 +30,10 @@ counts-defined-one g {c} a b x y = counts-words a b (x .long ∙ sym (y .long)) 
 -- the final tables are one
 final-one : (g : Flat) (v w : Work) → Final g v → Final g w → v ≡ w
 final-one g v w x y =
-    let p = productive-defined-one g (v .productive) (w .productive) (x .productive) (y .productive) in
     let c = cost-defined-one g (v .cost) (w .cost) (x .cost) (y .cost) in
     let l = lengths-defined-one g (v .lengths) (w .lengths) (x .lengths) (subst (λ u. LengthsDefined g (costsOf u) (w .lengths)) (sym c) (y .lengths)) in
     let n = counts-defined-one g (v .counts) (w .counts) (x .counts) (subst (λ u. CountsDefined g (costsOf u) (w .counts)) (sym c) (y .counts)) in
-    ap (λ u. work u (v .cost) (v .lengths) (v .counts)) p ∙ ap (λ u. work (w .productive) u (v .lengths) (v .counts)) c ∙ ap (λ u. work (w .productive) (w .cost) u (v .counts)) l ∙ ap (work (w .productive) (w .cost) (w .lengths)) n
+    ap (λ u. work u (v .lengths) (v .counts)) c ∙ ap (λ u. work (w .cost) u (v .counts)) l ∙ ap (work (w .cost) (w .lengths)) n
 
 count-done-one : (g : Flat) (r : ℕ) (s t : Outcome ℕ) (a b : Work) → CountDone g r s a → CountDone g r t b → Both s t a b
 count-done-one g r s t a b x y =
@@ -69,18 +68,18 @@ pub record SameCount (r s : Counted) (a b : Work) : Type 0 where
   pub answer : r ≡ s
   pub tables : a ≡ b
 
-pub count-min-sentences-one : (g : Flat) (rule : ℕ) (productive cost lengths counts : List ℕ) {r s : Counted} {p c l n p′ c′ l′ n′ : List ℕ}
-    → CountMinSentences g rule productive cost lengths counts r p c l n → CountMinSentences g rule productive cost lengths counts s p′ c′ l′ n′ → SameCount r s (work p c l n) (work p′ c′ l′ n′)
-count-min-sentences-one g rule productive cost lengths counts {r} {s} x y =
-    let o = call-one (count-done-one g rule) (allDue g rule (work productive cost lengths counts)) x y in
+pub count-min-sentences-one : (g : Flat) (rule : ℕ) (cost lengths counts : List ℕ) {r s : Counted} {c l n c′ l′ n′ : List ℕ}
+    → CountMinSentences g rule cost lengths counts r c l n → CountMinSentences g rule cost lengths counts s c′ l′ n′ → SameCount r s (work c l n) (work c′ l′ n′)
+count-min-sentences-one g rule cost lengths counts {r} {s} x y =
+    let o = call-one (count-done-one g rule) (allDue g rule (work cost lengths counts)) x y in
     record { answer = counted-one r s (o .said); tables = o .left }
 
 pub record SameNumber (r s : Answer) (a b : Lends) : Type 0 where
   pub answer : r ≡ s
   pub memory : a ≡ b
 
-pub min-sentence-at-one : (g : Flat) (rule i : ℕ) (productive cost lengths counts out : List ℕ) {r s : Answer} {p c l n o p′ c′ l′ n′ o′ : List ℕ}
-    → MinSentenceAt g rule i productive cost lengths counts out r p c l n o → MinSentenceAt g rule i productive cost lengths counts out s p′ c′ l′ n′ o′ → SameNumber r s (lends (work p c l n) o) (lends (work p′ c′ l′ n′) o′)
-min-sentence-at-one g rule i productive cost lengths counts out {r} {s} x y =
-    let o = call-one (number-done-one g rule i out) (allDue g rule (work productive cost lengths counts)) x y in
+pub min-sentence-at-one : (g : Flat) (rule i : ℕ) (cost lengths counts out : List ℕ) {r s : Answer} {c l n o c′ l′ n′ o′ : List ℕ}
+    → MinSentenceAt g rule i cost lengths counts out r c l n o → MinSentenceAt g rule i cost lengths counts out s c′ l′ n′ o′ → SameNumber r s (lends (work c l n) o) (lends (work c′ l′ n′) o′)
+min-sentence-at-one g rule i cost lengths counts out {r} {s} x y =
+    let o = call-one (number-done-one g rule i out) (allDue g rule (work cost lengths counts)) x y in
     record { answer = length-answer-one r s (o .said); memory = o .left }

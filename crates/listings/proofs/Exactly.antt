@@ -1,8 +1,7 @@
 -- What becomes of a rule whose sentences are asked for: one of 12, 13, 14, 16 and 15, or an answer; what is said of each, and of no other.
-use mathlib.Core.Bool.{Bool, true, false, true≢false}
 use mathlib.Core.List.{List, _++_}
 use mathlib.Core.Logic.{_⊎_, inl, inr}
-use mathlib.Core.Path.{_≡_, refl, sym, _∙_}
+use mathlib.Core.Path.{_≡_}
 use Prim.Native.Nat.{ℕ, _≤_, _<_}
 use native.Mathlib.Decide.{decLe}
 use native.Mathlib.Omega.{arith}
@@ -12,10 +11,11 @@ use Rattle.theory.specs.Visits.{Costs}
 use Rattle.theory.specs.Cheapest.{Circular}
 use Rattle.theory.specs.Listing.{listed, sentenceAt}
 use Rattle.theory.specs.Counts.{Count, counted, many as more, none as no-count}
+use Rattle.theory.proofs.Cost.{cost-one}
 use Rattle.grammar.specs.Flat.{Flat, denoted, price}
 use Rattle.grammar.specs.Outcome.{Outcome, answers, refused}
-use Rattle.costs.specs.Lent.{rowOf, costsOf}
-use Rattle.costs.proofs.Exactly.{Dear}
+use Rattle.costs.specs.Lent.{costsOf}
+use Rattle.costs.proofs.Exactly.{Dear, kinds}
 use Rattle.listings.specs.Calls.{countsOf, Work, Final, Lists, Counts, Numbers}
 
 -- the rule's list
@@ -34,20 +34,17 @@ pub data Fate (g : Flat) (c : Costs) (r : ℕ) : Type 0 where
 
 -- it is one of the five, by the tables
 pub fate : (g : Flat) (r : ℕ) (w : Work) → Final g w → Fate g (costsOf (w .cost)) r
-fate g r w x = go (rowOf (g .rules) (w .productive) r) refl
+fate g r w x = elim (kinds g r (x .cost)) [
+  | inl h ↦ none h
+  | inr (inl h) ↦ dear h
+  | inr (inr h) ↦ from (omega (arith, cost-one (h .2) (x .cost .exact r), h .1)) (x .counts .exact r)
+]
   where
     from : costsOf (w .cost) r ≤ 65535 → Count (denoted g) (price g) (costsOf (w .cost)) r (countsOf (w .counts) r) → Fate g (costsOf (w .cost)) r
     from p (counted a u le e) = is (record { priced = a; straight = u }) le
     from p (more a u lt e) = many (record { priced = a; straight = u }) lt
     from p (no-count (inl l) e) = absurd (omega arith)
     from p (no-count (inr y) e) = circular y
-
-    go : (m : Bool) → rowOf (g .rules) (w .productive) r ≡ m → Fate g (costsOf (w .cost)) r
-    go false e = none (λ k. true≢false (sym (x .productive .exact r .0 k) ∙ e))
-    go true e = elim (decLe (costsOf (w .cost) r) 65535) [
-      | no k ↦ dear (x .productive .exact r .1 e, λ v y. omega (arith, x .cost .exact r .least v y))
-      | yes k ↦ from k (x .counts .exact r)
-    ]
 
 -- what the count says of each
 abbrev pub said : {g : Flat} {c : Costs} {r : ℕ} → Fate g c r → Outcome ℕ

@@ -1,5 +1,5 @@
 -- What the finished tables say of a rule: 12 to 14, 16, how many; and of number k: 15, or its sentence.
-use mathlib.Core.Bool.{Bool, true, false, not, _&&_, true≢false}
+use mathlib.Core.Bool.{true, false, _&&_, true≢false}
 use mathlib.Core.List.{List, _++_}
 use mathlib.Core.Logic.{_⊎_, inl, inr}
 use mathlib.Core.Path.{_≡_, refl, sym, ap, _∙_, subst}
@@ -9,7 +9,7 @@ use native.Mathlib.Omega.{arith}
 use lib.Dec.{leb}
 use lib.ListN.{length, drop}
 use lib.Seq.{sets, sets-eq}
-use borrow.Author.Tests.{leb-true, le-leb, not-true, not-false}
+use borrow.Author.Tests.{leb-true, le-leb}
 use Rattle.theory.specs.Definitions.{Sentence, costOf, Productive, Cost}
 use Rattle.theory.specs.Grammar.{Grammar}
 use Rattle.theory.specs.Search.{Chain, one, link}
@@ -24,11 +24,10 @@ use Rattle.grammar.specs.Flat.{Flat, at, denoted, price}
 use Rattle.grammar.specs.Outcome.{answers, refused}
 use Rattle.grammar.proofs.Denoted.{proper}
 use Rattle.grammar.proofs.Outcomes.{not-both, refused-one, answers-one}
-use Rattle.rows.specs.Marks.{mark}
-use Rattle.rows.proofs.Row.{row-mark}
 use Rattle.tables.specs.Append.{Appended}
-use Rattle.tables.specs.Sizes.{words}
 use Rattle.costs.specs.Lent.{costsOf}
+use Rattle.costs.specs.Query.{entryDue}
+use Rattle.costs.proofs.Entry.{due-cost, due-none, due-12, due-13}
 use Rattle.costs.proofs.Summing.{entry}
 use Rattle.sentences.specs.Query.{Refuses}
 use Rattle.listings.specs.declared.Counted.{Counted}
@@ -46,27 +45,15 @@ chain-priced g k c (one u) = u .cheapest .priced
 chain-priced g k c (link u x) = u .cheapest .priced
 
 -- the count of a rule, by what its entries are
-module _ (g : Flat) (r : ℕ) (row cost counts : List ℕ) (ok : CountReady g r row cost counts) where
-  abbrev m : Bool
-  m = mark (words (g .rules)) row 0 r
-
+module _ (g : Flat) (r : ℕ) (cost counts : List ℕ) (ok : CountReady g r cost counts) where
   abbrev c : ℕ → ℕ
   c = costsOf cost
 
   abbrev n : ℕ
   n = countsOf counts r
 
-  marks : m ≡ true → Productive (denoted g) r
-  marks e = ok .productive-defined .exact r .1 (row-mark (g .rules) (words (g .rules)) row r (ok .isRule) ∙ e)
-
-  marked : Productive (denoted g) r → m ≡ true
-  marked h = sym (row-mark (g .rules) (words (g .rules)) row r (ok .isRule)) ∙ ok .productive-defined .exact r .0 h
-
   costs-it : Cost (denoted g) (price g) r (c r)
   costs-it = ok .cost-defined .exact r
-
-  priced-marked : c r ≤ 65535 → m ≡ true
-  priced-marked le = let w = costs-it .met le in marked (w .0, w .1)
 
   -- only a rule with a cost has a cheapest production
   circular-priced : Circular (denoted g) (price g) c r → c r ≤ 65535
@@ -75,104 +62,95 @@ module _ (g : Flat) (r : ℕ) (row cost counts : List ℕ) (ok : CountReady g r 
     | inr x ↦ chain-priced (denoted g) (price g) c x
   ]
 
-  pub counts-12 : m ≡ false → Counts g c r (refused 12)
-  counts-12 e = record {
-    none = λ h. refl;
-    dear = λ h s. absurd (true≢false (sym (marked h) ∙ e));
-    circular = λ y. absurd (true≢false (sym (priced-marked (circular-priced y)) ∙ e));
-    many = λ l h. absurd (true≢false (sym (priced-marked (l .priced)) ∙ e));
-    is = λ l h. absurd (true≢false (sym (priced-marked (l .priced)) ∙ e));
+  pub counts-due : (due : ℕ) → due ≡ entryDue (c r) → (due ≡ 0 → ⊥) → Counts g c r (refused due)
+  counts-due due e k = record {
+    none = λ h. ap refused (e ∙ due-12 costs-it h);
+    dear = λ h s. ap refused (e ∙ due-13 costs-it h s);
+    circular = λ y. absurd (priced (circular-priced y));
+    many = λ l h. absurd (priced (l .priced));
+    is = λ l h. absurd (priced (l .priced));
   }
+    where
+      priced : c r ≤ 65535 → ⊥
+      priced le = k (e ∙ sym (due-cost (c r) le))
 
-  module _ (e : m ≡ true) where
-    pub counts-13 : 65535 < c r → Counts g c r (refused 13)
-    counts-13 lt = record {
-      none = λ h. absurd (h (marks e));
-      dear = λ h s. refl;
-      circular = λ y. absurd (omega (arith, circular-priced y));
-      many = λ l h. absurd (omega (arith, l .priced));
-      is = λ l h. absurd (omega (arith, l .priced));
+  module _ (le : c r ≤ 65535) where
+    productive : Productive (denoted g) r
+    productive = costs-it .known (omega arith)
+
+    not-dear : ((w : List ℕ) → Sentence (denoted g) r w → 65536 ≤ costOf (price g) w) → ⊥
+    not-dear s = let w = costs-it .met le in omega (arith, s (w .0) (w .1), w .2)
+
+    pub counts-14 : 65536 < n → Counts g c r (refused 14)
+    counts-14 lt = let y = is-circular (ok .counts-defined .exact r) in record {
+      none = λ h. absurd (h productive);
+      dear = λ h s. absurd (not-dear s);
+      circular = λ z. refl;
+      many = λ l h. absurd (l .straight y);
+      is = λ l h. absurd (l .straight y);
     }
+      where
+        is-circular : Count (denoted g) (price g) c r n → Circular (denoted g) (price g) c r
+        is-circular (counted a b h z) = absurd (omega arith)
+        is-circular (many a b h z) = absurd (omega arith)
+        is-circular (none (inl h) z) = absurd (omega arith)
+        is-circular (none (inr y) z) = y
 
-    module _ (le : c r ≤ 65535) where
-      not-dear : ((w : List ℕ) → Sentence (denoted g) r w → 65536 ≤ costOf (price g) w) → ⊥
-      not-dear s = let w = costs-it .met le in omega (arith, s (w .0) (w .1), w .2)
+    module _ (low : n ≤ 65536) where
+      exact : (deepBy g cost (g .rules) r ≡ true) × (n ≡ min (manyBy g cost r) 65536)
+      exact = count-known (denoted g) (price g) c (proper g (ok .well)) (ok .cost-defined .exact) (ok .counts-defined .exact r) low
 
-      pub counts-14 : 65536 < n → Counts g c r (refused 14)
-      counts-14 lt = let y = is-circular (ok .counts-defined .exact r) in record {
-        none = λ h. absurd (h (marks e));
+      straight : Circular (denoted g) (price g) c r → ⊥
+      straight = deep-not-circular (denoted g) (price g) c (g .rules) r (exact .0)
+
+      pub counts-16 : 65535 < n → Counts g c r (refused 16)
+      counts-16 lt = record {
+        none = λ h. absurd (h productive);
         dear = λ h s. absurd (not-dear s);
-        circular = λ z. refl;
-        many = λ l h. absurd (l .straight y);
-        is = λ l h. absurd (l .straight y);
+        circular = λ y. absurd (straight y);
+        many = λ l h. refl;
+        is = λ l h. absurd (omega (arith, exact .1));
       }
-        where
-          is-circular : Count (denoted g) (price g) c r n → Circular (denoted g) (price g) c r
-          is-circular (counted a b h z) = absurd (omega arith)
-          is-circular (many a b h z) = absurd (omega arith)
-          is-circular (none (inl h) z) = absurd (omega arith)
-          is-circular (none (inr y) z) = y
 
-      module _ (low : n ≤ 65536) where
-        exact : (deepBy g cost (g .rules) r ≡ true) × (n ≡ min (manyBy g cost r) 65536)
-        exact = count-known (denoted g) (price g) c (proper g (ok .well)) (ok .cost-defined .exact) (ok .counts-defined .exact r) low
-
-        straight : Circular (denoted g) (price g) c r → ⊥
-        straight = deep-not-circular (denoted g) (price g) c (g .rules) r (exact .0)
-
-        pub counts-16 : 65535 < n → Counts g c r (refused 16)
-        counts-16 lt = record {
-          none = λ h. absurd (h (marks e));
-          dear = λ h s. absurd (not-dear s);
-          circular = λ y. absurd (straight y);
-          many = λ l h. refl;
-          is = λ l h. absurd (omega (arith, exact .1));
-        }
-
-        pub counts-are : n ≤ 65535 → Counts g c r (answers n)
-        counts-are short = record {
-          none = λ h. absurd (h (marks e));
-          dear = λ h s. absurd (not-dear s);
-          circular = λ y. absurd (straight y);
-          many = λ l h. absurd (omega (arith, exact .1));
-          is = λ l h. ap answers (let q : n ≡ manyBy g cost r = omega (arith, exact .1) in q);
-        }
+      pub counts-are : n ≤ 65535 → Counts g c r (answers n)
+      counts-are short = record {
+        none = λ h. absurd (h productive);
+        dear = λ h s. absurd (not-dear s);
+        circular = λ y. absurd (straight y);
+        many = λ l h. absurd (omega (arith, exact .1));
+        is = λ l h. ap answers (let q : n ≡ manyBy g cost r = omega (arith, exact .1) in q);
+      }
 
 -- the same from what the tests on the way answered
-module _ (g : Flat) (r : ℕ) (row cost counts : List ℕ) (ok : CountReady g r row cost counts) (n : ℕ) (en : n ≡ g .rules) (wd : ℕ) (ew : wd ≡ words n) (b : Bool) (eb : b ≡ mark wd row 0 r) where
-  is-mark : mark (words (g .rules)) row 0 r ≡ b
-  is-mark = sym (eb ∙ rw (ew, en))
+module _ (g : Flat) (r : ℕ) (cost counts : List ℕ) (ok : CountReady g r cost counts) (least : ℕ) (el : least ≡ at cost r) (due : ℕ) (ed : due ≡ entryDue least) where
+  is-due : due ≡ entryDue (costsOf cost r)
+  is-due = ed ∙ ap entryDue (el ∙ sym (entry cost r (omega (arith, ok .isRule, ok .cost-defined .long))))
 
-  pub count-12 : not b ≡ true → Counts g (costsOf cost) r (refused 12)
-  count-12 t = counts-12 g r row cost counts ok (is-mark ∙ not-true b t)
+  pub count-due : (due ≡ 0 → ⊥) → Counts g (costsOf cost) r (refused due)
+  count-due h = counts-due g r cost counts ok due is-due h
 
-  module _ (t : not b ≡ false) (least : ℕ) (el : least ≡ at cost r) where
-    is-cost : least ≡ costsOf cost r
-    is-cost = el ∙ sym (entry cost r (omega (arith, ok .isRule, ok .cost-defined .long)))
+  module _ (h : due ≡ 0) (total : ℕ) (et : total ≡ at counts r) where
+    cheap : costsOf cost r ≤ 65535
+    cheap = due-none (costsOf cost r) (sym is-due ∙ h)
 
-    pub count-13 : 65535 < least → Counts g (costsOf cost) r (refused 13)
-    count-13 h = counts-13 g r row cost counts ok (is-mark ∙ not-false b t) (omega (arith, is-cost))
+    is-count : total ≡ countsOf counts r
+    is-count = et ∙ sym (count-entry counts r (omega (arith, ok .isRule, ok .counts-defined .long)))
 
-    module _ (h : least ≤ 65535) (total : ℕ) (et : total ≡ at counts r) where
-      is-count : total ≡ countsOf counts r
-      is-count = et ∙ sym (count-entry counts r (omega (arith, ok .isRule, ok .counts-defined .long)))
+    pub count-14 : 65536 < total → Counts g (costsOf cost) r (refused 14)
+    count-14 k = counts-14 g r cost counts ok cheap (omega (arith, is-count))
 
-      pub count-14 : 65536 < total → Counts g (costsOf cost) r (refused 14)
-      count-14 k = counts-14 g r row cost counts ok (is-mark ∙ not-false b t) (omega (arith, is-cost)) (omega (arith, is-count))
+    module _ (k : total ≤ 65536) where
+      pub count-16 : 65535 < total → Counts g (costsOf cost) r (refused 16)
+      count-16 i = counts-16 g r cost counts ok cheap (omega (arith, is-count)) (omega (arith, is-count))
 
-      module _ (k : total ≤ 65536) where
-        pub count-16 : 65535 < total → Counts g (costsOf cost) r (refused 16)
-        count-16 i = counts-16 g r row cost counts ok (is-mark ∙ not-false b t) (omega (arith, is-cost)) (omega (arith, is-count)) (omega (arith, is-count))
-
-        pub count-are : total ≤ 65535 → Counts g (costsOf cost) r (answers total)
-        count-are i = subst (λ z. Counts g (costsOf cost) r (answers z)) (sym is-count) (counts-are g r row cost counts ok (is-mark ∙ not-false b t) (omega (arith, is-cost)) (omega (arith, is-count)) (omega (arith, is-count)))
+      pub count-are : total ≤ 65535 → Counts g (costsOf cost) r (answers total)
+      count-are i = subst (λ z. Counts g (costsOf cost) r (answers z)) (sym is-count) (counts-are g r cost counts ok cheap (omega (arith, is-count)) (omega (arith, is-count)))
 
 -- number k, from the count's answer
-module _ (g : Flat) (r : ℕ) (row cost next choice lengths counts : List ℕ) (ok : NumberReady g r row cost next choice lengths counts) where
-  pub number-count : CountReady g r row cost counts
+module _ (g : Flat) (r : ℕ) (cost next choice lengths counts : List ℕ) (ok : NumberReady g r cost next choice lengths counts) where
+  pub number-count : CountReady g r cost counts
   number-count = record {
     well = ok .well;
-    productive-defined = ok .worked .final .productive;
     cost-defined = ok .worked .final .cost;
     counts-defined = ok .worked .final .counts;
     isRule = ok .isRule;
@@ -211,7 +189,7 @@ module _ (g : Flat) (r : ℕ) (row cost next choice lengths counts : List ℕ) (
 
       -- the rule has a list, and the answer is its count
       lists : Lists g (costsOf cost) r
-      lists = go (fate g r (work row cost lengths counts) (ok .worked .final))
+      lists = go (fate g r (work cost lengths counts) (ok .worked .final))
         where
           go : Fate g (costsOf cost) r → Lists g (costsOf cost) r
           go (no-sentence h) = absurd (not-both (sym told ∙ said .none h))

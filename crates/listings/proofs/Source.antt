@@ -57,17 +57,17 @@ module _ (g : Flat) (w : Built g) (r : ℕ) (isRule : r < g .rules) (b : Costs) 
       (d .numbers .is (lists g w r isRule b sts y (a .tables) (d .final)) (omega (arith, few, e)) (omega (arith, lt, e)) (omega (arith, short, ap length q)) (omega (arith, room, ap length q)))
 
 -- the same of the calls, whatever was lent to them
-pub count-source : (g : Flat) → Built g → (r : ℕ) (productive cost lengths counts : List ℕ) → allDue g r (work productive cost lengths counts) ≡ answers tt
-    → (q : Counted) (productive′ cost′ lengths′ counts′ : List ℕ) → CountMinSentences g r productive cost lengths counts q productive′ cost′ lengths′ counts′
+pub count-source : (g : Flat) → Built g → (r : ℕ) (cost lengths counts : List ℕ) → allDue g r (work cost lengths counts) ≡ answers tt
+    → (q : Counted) (cost′ lengths′ counts′ : List ℕ) → CountMinSentences g r cost lengths counts q cost′ lengths′ counts′
     → (b : Costs) (sts : List (List ℕ)) → Returns (denoted g) (price g) b r sts → length sts ≤ 65535 → countedIs q ≡ answers (length sts)
-count-source g w r productive cost lengths counts due q productive′ cost′ lengths′ counts′ m b sts y h = count-equal g w r (due-rule g r (length productive) (length cost) (length lengths) (length counts) due) b sts y (m .does due) h
+count-source g w r cost lengths counts due q cost′ lengths′ counts′ m b sts y h = count-equal g w r (due-rule g r (length cost) (length lengths) (length counts) due) b sts y (m .does due) h
 
-pub number-source : (g : Flat) → Built g → (r k : ℕ) (productive cost lengths counts out : List ℕ) → allDue g r (work productive cost lengths counts) ≡ answers tt
-    → (q : Answer) (productive′ cost′ lengths′ counts′ out′ : List ℕ) → MinSentenceAt g r k productive cost lengths counts out q productive′ cost′ lengths′ counts′ out′
+pub number-source : (g : Flat) → Built g → (r k : ℕ) (cost lengths counts out : List ℕ) → allDue g r (work cost lengths counts) ≡ answers tt
+    → (q : Answer) (cost′ lengths′ counts′ out′ : List ℕ) → MinSentenceAt g r k cost lengths counts out q cost′ lengths′ counts′ out′
     → (b : Costs) (sts : List (List ℕ)) → Returns (denoted g) (price g) b r sts → length sts ≤ 65535 → k < length sts
     → length (getD sts k []) ≤ 65535 → length (getD sts k []) ≤ length out → Writes (getD sts k []) out (lengthIs q) out′
-number-source g w r k productive cost lengths counts out due q productive′ cost′ lengths′ counts′ out′ m b sts y few lt short room =
-    number-equal g w r (due-rule g r (length productive) (length cost) (length lengths) (length counts) due) b sts y k out (m .does due) few lt short room
+number-source g w r k cost lengths counts out due q cost′ lengths′ counts′ out′ m b sts y few lt short room =
+    number-equal g w r (due-rule g r (length cost) (length lengths) (length counts) due) b sts y k out (m .does due) few lt short room
 
 -- it returns where the costs do, no sum is above 65535 and the rule is not circular
 pub source-returns : (g : Flat) → Built g → (r : ℕ) → r < g .rules → (b : Costs) → CostsReturn (denoted g) (price g) start b → ((q : ℕ) → Sums (denoted g) (price g) b q)

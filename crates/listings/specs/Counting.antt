@@ -4,6 +4,7 @@ use mathlib.Core.List.{List}
 use mathlib.Core.Path.{_≡_}
 use Prim.Native.Nat.{ℕ, _+_, _≤_, _<_, min}
 use lib.ListN.{length, getD}
+use Rattle.theory.specs.Entries.{countMany}
 use Rattle.theory.specs.Visits.{Row, Costs, allMarked}
 use Rattle.theory.specs.Listing.{listed, deep}
 use Rattle.theory.specs.Counts.{formWays}
@@ -60,8 +61,8 @@ pub record RuleCountable (g : Flat) (next cost choice : List ℕ) (levels r : �
 -- within so many levels it is known, and written down; or they are too few
 pub record RuleCounts (g : Flat) (cost : List ℕ) (levels r : ℕ) (counts : List ℕ) (n : ℕ) (counts′ shallow′ : List ℕ) : Type 0 where
   pub on : CountOn g cost counts counts′ shallow′
-  pub known : n ≤ 65536 → countsOf counts′ r ≡ n
-  pub none : 65536 < n → deepBy g cost levels r ≡ false
+  pub known : n ≤ countMany → countsOf counts′ r ≡ n
+  pub none : countMany < n → deepBy g cost levels r ≡ false
 
 -- what the count of the symbols from a up to e asks
 pub record ProductionCountable (g : Flat) (next cost choice : List ℕ) (levels a e : ℕ) (counts shallow : List ℕ) : Type 0 where
@@ -74,9 +75,9 @@ pub record ProductionCountable (g : Flat) (next cost choice : List ℕ) (levels 
 -- every rule of them is known, and this is the product, cut at 65536; or the levels are too few for some rule
 pub record ProductionCounts (g : Flat) (cost : List ℕ) (levels a e : ℕ) (counts : List ℕ) (n : ℕ) (counts′ shallow′ : List ℕ) : Type 0 where
   pub on : CountOn g cost counts counts′ shallow′
-  pub within : n ≤ 65536 → allMarked (deepBy g cost (g .rules)) (form (g .symbols) a e) ≡ true
-  pub known : n ≤ 65536 → n ≡ min (formWays (manyBy g cost) (form (g .symbols) a e)) 65536
-  pub none : 65536 < n → allMarked (deepBy g cost levels) (form (g .symbols) a e) ≡ false
+  pub within : n ≤ countMany → allMarked (deepBy g cost (g .rules)) (form (g .symbols) a e) ≡ true
+  pub known : n ≤ countMany → n ≡ min (formWays (manyBy g cost) (form (g .symbols) a e)) countMany
+  pub none : countMany < n → allMarked (deepBy g cost levels) (form (g .symbols) a e) ≡ false
 
 -- what filling the counts asks
 pub record CountFillable (g : Flat) (next cost choice counts : List ℕ) : Type 0 where

@@ -4,6 +4,7 @@ use mathlib.Core.List.{List}
 use mathlib.Core.Path.{_≡_}
 use Prim.Native.Nat.{ℕ, _+_, _≤_, _<_}
 use lib.ListN.{length, getD, take, replicate}
+use Rattle.theory.specs.Entries.{countMax}
 use Rattle.theory.specs.Visits.{allMarked}
 use Rattle.theory.specs.Listing.{Item, nothing, listing}
 use Rattle.theory.specs.Counts.{formWays}
@@ -34,7 +35,7 @@ pub record Numbered (g : Flat) (next cost choice counts : List ℕ) (levels r k 
   pub counts-defined : CountsDefined g (costsOf cost) counts
   pub isRule : r < g .rules
   pub within : deepBy g cost levels r ≡ true
-  pub few : countsOf counts r ≤ 65535
+  pub few : countsOf counts r ≤ countMax
   pub below : k < countsOf counts r
 
 -- what finding it asks: the levels are those of the rules inside; no place is turned yet
@@ -71,7 +72,7 @@ pub record ProductionMeasurable (g : Flat) (next cost choice lengths counts : Li
   pub rise : a ≤ e
   pub inside : e ≤ length (g .symbols)
   pub within : allMarked (deepBy g cost levels) (form (g .symbols) a e) ≡ true
-  pub few : formWays (countsOf counts) (form (g .symbols) a e) ≤ 65535
+  pub few : formWays (countsOf counts) (form (g .symbols) a e) ≤ countMax
   pub room : length todo ≡ 16
   pub fits : Fits (places (countsOf counts) (form (g .symbols) a e)) (take (length (places (countsOf counts) (form (g .symbols) a e))) todo)
 

@@ -5,9 +5,8 @@ use Prim.Native.Nat.{ℕ, _<_}
 use lib.ListN.{length, replicate}
 use Rattle.grammar.specs.Flat.{Flat}
 use Rattle.grammar.specs.Well.{WellFormed}
-use Rattle.tables.specs.Sizes.{words}
 use Rattle.costs.specs.Lent.{costsOf}
-use Rattle.costs.specs.Defined.{ProductiveDefined, CostDefined}
+use Rattle.costs.specs.Defined.{CostDefined}
 use Rattle.sentences.specs.Choosing.{FirstChoices}
 use Rattle.listings.specs.declared.Counted.{Counted}
 use Rattle.listings.specs.declared.Counted.the-variants.{Are, Refused as Not}
@@ -15,9 +14,8 @@ use Rattle.listings.specs.Calls.{CountsDefined, work, Final}
 use Rattle.listings.specs.Counting.{Nexts}
 
 -- what filling them asks: a well-formed grammar, tables of their exact lengths, no link and no first choice yet
-pub record Workable (g : Flat) (productive cost next choice lengths counts : List ℕ) : Type 0 where
+pub record Workable (g : Flat) (cost next choice lengths counts : List ℕ) : Type 0 where
   pub well : WellFormed g
-  pub productive-long : length productive ≡ words (g .rules)
   pub cost-long : length cost ≡ g .rules
   pub next-none : next ≡ replicate 4096 4096
   pub choice-none : choice ≡ replicate 512 4096
@@ -25,23 +23,22 @@ pub record Workable (g : Flat) (productive cost next choice lengths counts : Lis
   pub counts-long : length counts ≡ g .rules
 
 -- they hold their final values
-pub record Worked (g : Flat) (productive cost next choice lengths counts : List ℕ) : Type 0 where
-  pub final : Final g (work productive cost lengths counts)
+pub record Worked (g : Flat) (cost next choice lengths counts : List ℕ) : Type 0 where
+  pub final : Final g (work cost lengths counts)
   pub links : Nexts g next
   pub picks : FirstChoices g cost choice
 
 -- what the count asks: a well-formed grammar, the final tables that it reads, one of its rules
-pub record CountReady (g : Flat) (r : ℕ) (productive cost counts : List ℕ) : Type 0 where
+pub record CountReady (g : Flat) (r : ℕ) (cost counts : List ℕ) : Type 0 where
   pub well : WellFormed g
-  pub productive-defined : ProductiveDefined g productive
   pub cost-defined : CostDefined g cost
   pub counts-defined : CountsDefined g (costsOf cost) counts
   pub isRule : r < g .rules
 
 -- what number k asks: all of them
-pub record NumberReady (g : Flat) (r : ℕ) (productive cost next choice lengths counts : List ℕ) : Type 0 where
+pub record NumberReady (g : Flat) (r : ℕ) (cost next choice lengths counts : List ℕ) : Type 0 where
   pub well : WellFormed g
-  pub worked : Worked g productive cost next choice lengths counts
+  pub worked : Worked g cost next choice lengths counts
   pub isRule : r < g .rules
 
 -- the number of a refused count, 0 where there is none

@@ -1,12 +1,15 @@
 // All cheapest sentences below the public calls: what is due, the working tables, and the answers from them.
+use crate::COUNT_MANY;
+use crate::COUNT_MAX;
 use crate::Counted;
 use costs::inner::entry_at;
+use costs::inner::entry_due;
 use grammar::Checked;
 use grammar::inner::links;
 use grammar::inner::wide;
+use sentences::LENGTH_MAX;
 use sentences::Length;
 use sentences::inner::size;
-use tables::inner::words_for;
 ghost use mathlib.Core.Path.{_≡_};
 ghost use Rattle.grammar.specs.Flat.{flat};
 ghost use Rattle.grammar.specs.Production.{checkedIs};
@@ -30,19 +33,18 @@ pub fn due(
     symbols: &[u16],
     costs: &[u8],
     rule: usize,
-    productive: usize,
     cost: usize,
     lengths: usize,
     counts: usize,
 ) -> Checked
-    ensures { λ c. ⌜ checkedIs c ≡ dueBy (flat rules (now (owners .entry)) (now (starts .entry)) (now (symbols .entry)) (now (costs .entry))) rule productive cost lengths counts ⌝ }
+    ensures { λ c. ⌜ checkedIs c ≡ dueBy (flat rules (now (owners .entry)) (now (starts .entry)) (now (symbols .entry)) (now (costs .entry))) rule cost lengths counts ⌝ }
 {
     let c = grammar::check(rules, owners, starts, symbols, costs);
     let Checked::Well = c else {
         return c;
     };
     let n = wide(rules);
-    if (productive != words_for(n)) | ((cost != n) | ((lengths != n) | (counts != n))) {
+    if (cost != n) | ((lengths != n) | (counts != n)) {
         return Checked::Refused(7);
     }
     if n <= rule {
@@ -51,34 +53,23 @@ pub fn due(
     Checked::Well
 }
 
-// Leaves the four working tables, the links and the first choices.
+// Leaves the three working tables, the links and the first choices.
 pub fn work(
     rules: u16,
     owners: &[u16],
     starts: &[u16],
     symbols: &[u16],
     costs: &[u8],
-    productive: &mut [u32],
     cost: &mut [u32],
     next: &mut [u16; 4096],
     choice: &mut [u16; 512],
     lengths: &mut [u32],
     counts: &mut [u32],
 )
-    requires { ⌜ Workable (flat rules (now owners) (now starts) (now symbols) (now costs)) (now productive) (now cost) (now next) (now choice) (now lengths) (now counts) ⌝ }
-    ensures { λ _. ⌜ Worked (flat rules (now (owners .entry)) (now (starts .entry)) (now (symbols .entry)) (now (costs .entry))) (now (productive .exit)) (now (cost .exit)) (now (next .exit)) (now (choice .exit)) (now (lengths .exit)) (now (counts .exit)) ⌝ }
+    requires { ⌜ Workable (flat rules (now owners) (now starts) (now symbols) (now costs)) (now cost) (now next) (now choice) (now lengths) (now counts) ⌝ }
+    ensures { λ _. ⌜ Worked (flat rules (now (owners .entry)) (now (starts .entry)) (now (symbols .entry)) (now (costs .entry))) (now (cost .exit)) (now (next .exit)) (now (choice .exit)) (now (lengths .exit)) (now (counts .exit)) ⌝ }
 {
-    sentences::inner::work(
-        rules,
-        owners,
-        starts,
-        symbols,
-        costs,
-        productive,
-        cost,
-        choice,
-        lengths,
-    );
+    sentences::inner::work(rules, owners, starts, symbols, costs, cost, choice, lengths);
     let mut head = [4096; 512];
     links(owners, &mut head, next);
     count_fill(
@@ -102,25 +93,21 @@ pub fn count_answer(
     symbols: &[u16],
     costs: &[u8],
     r: usize,
-    productive: &[u32],
     cost: &[u32],
     counts: &[u32],
 ) -> Counted
-    requires { ⌜ CountReady (flat rules (now owners) (now starts) (now symbols) (now costs)) r (now productive) (now cost) (now counts) ⌝ }
+    requires { ⌜ CountReady (flat rules (now owners) (now starts) (now symbols) (now costs)) r (now cost) (now counts) ⌝ }
     ensures { λ a. ⌜ Counts (flat rules (now (owners .entry)) (now (starts .entry)) (now (symbols .entry)) (now (costs .entry))) (costsOf (now (cost .entry))) r (countedIs a) ⌝ }
 {
-    let n = wide(rules);
-    if !rows::inner::is_set(productive, words_for(n), 0, r) {
-        return Counted::Refused(12);
-    }
-    if 65535 < entry_at(cost, r) {
-        return Counted::Refused(13);
+    let due = entry_due(entry_at(cost, r));
+    if due != 0 {
+        return Counted::Refused(due);
     }
     let many = entry_at(counts, r);
-    if 65536 < many {
+    if COUNT_MANY < many {
         return Counted::Refused(14);
     }
-    if 65535 < many {
+    if COUNT_MAX < many {
         return Counted::Refused(16);
     }
     Counted::Are(many)
@@ -145,7 +132,6 @@ pub fn number_answer(
     costs: &[u8],
     r: usize,
     k: u32,
-    productive: &[u32],
     cost: &[u32],
     next: &[u16; 4096],
     choice: &[u16; 512],
@@ -153,20 +139,10 @@ pub fn number_answer(
     counts: &[u32],
     out: &mut [u16],
 ) -> Length
-    requires { ⌜ NumberReady (flat rules (now owners) (now starts) (now symbols) (now costs)) r (now productive) (now cost) (now next) (now choice) (now lengths) (now counts) ⌝ }
+    requires { ⌜ NumberReady (flat rules (now owners) (now starts) (now symbols) (now costs)) r (now cost) (now next) (now choice) (now lengths) (now counts) ⌝ }
     ensures { λ a. ⌜ Numbers (flat rules (now (owners .entry)) (now (starts .entry)) (now (symbols .entry)) (now (costs .entry))) (costsOf (now (cost .entry))) r k (now (out .entry)) (lengthIs a) (now (out .exit)) ⌝ }
 {
-    let c = count_answer(
-        rules,
-        owners,
-        starts,
-        symbols,
-        costs,
-        r,
-        productive,
-        cost,
-        counts,
-    );
+    let c = count_answer(rules, owners, starts, symbols, costs, r, cost, counts);
     let Counted::Are(many) = c else {
         return Length::Refused(refusal(c));
     };
@@ -189,7 +165,7 @@ pub fn number_answer(
         r,
         k,
     );
-    if (long <= 65535) & (size(long) <= out.len()) {
+    if (long <= LENGTH_MAX) & (size(long) <= out.len()) {
         write_rule(
             rules,
             owners,

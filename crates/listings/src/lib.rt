@@ -10,13 +10,22 @@ ghost use Rattle.listings.specs.Calls.{CountMinSentences, MinSentenceAt}
 
 pub mod inner;
 
+// Counts: an entry up to this is how many cheapest sentences the rule has.
+pub const COUNT_MAX: u32 = 65535;
+
+// Counts: there are more than 65535.
+pub const COUNT_MANY: u32 = 65536;
+
+// Counts: the rule is circular or has no cost.
+pub const COUNT_NONE: u32 = 65537;
+
 // What the count of all cheapest sentences answers.
 pub enum Counted {
     Are(u32),
     Refused(u16),
 }
 
-// How many cheapest sentences `rule` has, each as often as it is derived. Fills the four tables.
+// How many cheapest sentences `rule` has, each as often as it is derived. Fills the three tables.
 // Refusals 1 to 7, 9, and once the tables are final 12 to 14, 16.
 pub fn count_min_sentences(
     rules: u16,
@@ -25,12 +34,11 @@ pub fn count_min_sentences(
     symbols: &[u16],
     costs: &[u8],
     rule: RIdx,
-    productive: &mut [u32],
     cost: &mut [u32],
     lengths: &mut [u32],
     counts: &mut [u32],
 ) -> Counted
-    ensures { λ r. ⌜ CountMinSentences (flat rules (now (owners .entry)) (now (starts .entry)) (now (symbols .entry)) (now (costs .entry))) (rule .0) (now (productive .entry)) (now (cost .entry)) (now (lengths .entry)) (now (counts .entry)) r (now (productive .exit)) (now (cost .exit)) (now (lengths .exit)) (now (counts .exit)) ⌝ }
+    ensures { λ r. ⌜ CountMinSentences (flat rules (now (owners .entry)) (now (starts .entry)) (now (symbols .entry)) (now (costs .entry))) (rule .0) (now (cost .entry)) (now (lengths .entry)) (now (counts .entry)) r (now (cost .exit)) (now (lengths .exit)) (now (counts .exit)) ⌝ }
 {
     let r = wide(rule.0);
     let d = inner::due(
@@ -40,7 +48,6 @@ pub fn count_min_sentences(
         symbols,
         costs,
         r,
-        productive.len(),
         cost.len(),
         lengths.len(),
         counts.len(),
@@ -56,27 +63,16 @@ pub fn count_min_sentences(
         starts,
         symbols,
         costs,
-        productive,
         cost,
         &mut next,
         &mut choice,
         lengths,
         counts,
     );
-    inner::count_answer(
-        rules,
-        owners,
-        starts,
-        symbols,
-        costs,
-        r,
-        productive,
-        cost,
-        counts,
-    )
+    inner::count_answer(rules, owners, starts, symbols, costs, r, cost, counts)
 }
 
-// Writes number `k`, from 0, of the cheapest sentences of `rule` to the front of `out`; its length. Fills the four tables.
+// Writes number `k`, from 0, of the cheapest sentences of `rule` to the front of `out`; its length. Fills the three tables.
 // Refusals 1 to 7, 9, and once the tables are final 12 to 14, 16, 15.
 pub fn min_sentence_at(
     rules: u16,
@@ -86,13 +82,12 @@ pub fn min_sentence_at(
     costs: &[u8],
     rule: RIdx,
     k: u32,
-    productive: &mut [u32],
     cost: &mut [u32],
     lengths: &mut [u32],
     counts: &mut [u32],
     out: &mut [u16],
 ) -> Length
-    ensures { λ r. ⌜ MinSentenceAt (flat rules (now (owners .entry)) (now (starts .entry)) (now (symbols .entry)) (now (costs .entry))) (rule .0) k (now (productive .entry)) (now (cost .entry)) (now (lengths .entry)) (now (counts .entry)) (now (out .entry)) r (now (productive .exit)) (now (cost .exit)) (now (lengths .exit)) (now (counts .exit)) (now (out .exit)) ⌝ }
+    ensures { λ r. ⌜ MinSentenceAt (flat rules (now (owners .entry)) (now (starts .entry)) (now (symbols .entry)) (now (costs .entry))) (rule .0) k (now (cost .entry)) (now (lengths .entry)) (now (counts .entry)) (now (out .entry)) r (now (cost .exit)) (now (lengths .exit)) (now (counts .exit)) (now (out .exit)) ⌝ }
 {
     let r = wide(rule.0);
     let d = inner::due(
@@ -102,7 +97,6 @@ pub fn min_sentence_at(
         symbols,
         costs,
         r,
-        productive.len(),
         cost.len(),
         lengths.len(),
         counts.len(),
@@ -118,7 +112,6 @@ pub fn min_sentence_at(
         starts,
         symbols,
         costs,
-        productive,
         cost,
         &mut next,
         &mut choice,
@@ -133,7 +126,6 @@ pub fn min_sentence_at(
         costs,
         r,
         k,
-        productive,
         cost,
         &next,
         &choice,

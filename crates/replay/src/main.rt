@@ -179,22 +179,12 @@ fn say_cost(
     costs: &[u8],
     rule: u16,
     asked: u16,
-    productive: &mut [u32],
     cost: &mut [u32],
 ) {
     if (asked < 1) | (2 < asked) {
         return;
     }
-    match costs::min_sentence_cost(
-        rules,
-        owners,
-        starts,
-        symbols,
-        costs,
-        RIdx(rule),
-        productive,
-        cost,
-    ) {
+    match costs::min_sentence_cost(rules, owners, starts, symbols, costs, RIdx(rule), cost) {
         costs::Cost::Is(n) => {
             io::print_decimal(1, n as u64);
         }
@@ -227,7 +217,6 @@ fn say_sentence(
     costs: &[u8],
     rule: u16,
     asked: u16,
-    productive: &mut [u32],
     cost: &mut [u32],
     lengths: &mut [u32],
     out: &mut [u16],
@@ -242,7 +231,6 @@ fn say_sentence(
         symbols,
         costs,
         RIdx(rule),
-        productive,
         cost,
         lengths,
         out,
@@ -277,7 +265,6 @@ fn say_rule(
     empty: &[u32],
     first: &[u32],
     follow: &[u32],
-    productive: &mut [u32],
     cost: &mut [u32],
     lengths: &mut [u32],
     out: &mut [u16],
@@ -292,17 +279,7 @@ fn say_rule(
     say(b",");
     say_paths(rules, owners, starts, symbols, costs, rule);
     say(b",");
-    say_cost(
-        rules,
-        owners,
-        starts,
-        symbols,
-        costs,
-        rule,
-        asked,
-        productive,
-        cost,
-    );
+    say_cost(rules, owners, starts, symbols, costs, rule, asked, cost);
     say(b",");
     say_sentence(
         rules,
@@ -312,7 +289,6 @@ fn say_rule(
         costs,
         rule,
         asked,
-        productive,
         cost,
         lengths,
         out,
@@ -330,7 +306,6 @@ fn say_rules(
     empty: &[u32],
     first: &[u32],
     follow: &[u32],
-    productive: &mut [u32],
     cost: &mut [u32],
     lengths: &mut [u32],
 ) {
@@ -348,7 +323,6 @@ fn say_rules(
             empty,
             first,
             follow,
-            productive,
             cost,
             lengths,
             &mut out,
@@ -387,7 +361,6 @@ fn fill_and_say(
     first: &mut [u32],
     follow: &mut [u32],
     reached: &mut [u32],
-    productive: &mut [u32],
     cost: &mut [u32],
     lengths: &mut [u32],
 ) {
@@ -414,7 +387,6 @@ fn fill_and_say(
         empty,
         first,
         follow,
-        productive,
         cost,
         lengths,
     );
@@ -439,7 +411,6 @@ fn replay(owners: &[u16], starts: &[u16], symbols: &[u16], costs: &[u8], asked: 
     let mut first = [0; 8192];
     let mut follow = [0; 8192];
     let mut reached = [0; 16];
-    let mut productive = [0; 16];
     let mut cost = [0; 512];
     let mut lengths = [0; 512];
     let r = narrow(n);
@@ -455,7 +426,6 @@ fn replay(owners: &[u16], starts: &[u16], symbols: &[u16], costs: &[u8], asked: 
         &mut first[..k],
         &mut follow[..k],
         &mut reached[..w],
-        &mut productive[..w],
         &mut cost[..n],
         &mut lengths[..n],
     );

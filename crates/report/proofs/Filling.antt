@@ -16,8 +16,8 @@ use Rattle.tables.proofs.Asking.{table-right, row-right, numbers-right, words-m
 use Rattle.firsts.specs.Lent.{lent as firsts}
 use Rattle.follows.specs.Calls.{Full, fillDue}
 use Rattle.follows.specs.Lent.{Lent, reads, lent}
-use Rattle.costs.specs.Calls.{FillProductive, Fill as FillCost}
-use Rattle.costs.specs.Defined.{RowFillable, CostFillable, ProductiveDefined, CostDefined}
+use Rattle.costs.specs.Calls.{Fill as FillCost}
+use Rattle.costs.specs.Defined.{CostFillable, CostDefined}
 use Rattle.lines.specs.Lent.{tables}
 use Rattle.lines.proofs.Saying.{fills-define}
 use Rattle.report.specs.Steps.{SetsFillable, SetsFull, Fillable, Ready}
@@ -30,7 +30,7 @@ front-long : (n k : ℕ) (list : List ℕ) → n ≡ k → k ≤ length list →
 front-long n k list e l = length-take-le n list (omega (arith, e)) ∙ e
 
 pub fronts-fillable : (g : Flat) → WellFormed g → (n w k : ℕ) → n ≡ g .rules → w ≡ words n → k ≡ n * words (length (g .costs))
-    → Fillable g (tables (take w (replicate 16 0)) (take k (replicate 8192 0)) (take k (replicate 8192 0)) (take w (replicate 16 0)) (take n (replicate 512 0)))
+    → Fillable g (tables (take w (replicate 16 0)) (take k (replicate 8192 0)) (take k (replicate 8192 0)) (take n (replicate 512 0)))
 fronts-fillable g x n w k en ew ek =
     let few = x .sizes .rules-high in
     let row : words (g .rules) ≤ 16 = omega (arith, few) in
@@ -42,13 +42,12 @@ fronts-fillable g x n w k en ew ek =
       empty-long = front-long w _ (replicate 16 0) wide (omega (arith, row, zeros 16));
       first-long = front-long k _ (replicate 8192 0) all (omega (arith, table, zeros 8192));
       follow-long = front-long k _ (replicate 8192 0) all (omega (arith, table, zeros 8192));
-      productive-long = front-long w _ (replicate 16 0) wide (omega (arith, row, zeros 16));
       cost-long = front-long n _ (replicate 512 0) en (omega (arith, few, zeros 512));
     }
 
 -- all of them filled
-pub filled-ready : (g : Flat) → WellFormed g → (empty first follow productive cost : List ℕ) → SetsFull g follow first empty → ProductiveDefined g productive → CostDefined g cost → Ready g (tables empty first follow productive cost)
-filled-ready g x empty first follow productive cost f p c = record { well = x; defined = fills-define g empty first follow (f .reached) productive cost (f .full) p c }
+pub filled-ready : (g : Flat) → WellFormed g → (empty first follow cost : List ℕ) → SetsFull g follow first empty → CostDefined g cost → Ready g (tables empty first follow cost)
+filled-ready g x empty first follow cost f c = record { well = x; defined = fills-define g empty first follow (f .reached) cost (f .full) c }
 
 -- each fill leaves its tables, whatever it answers: no refusal is due
 module _ (g : Flat) where
@@ -69,9 +68,6 @@ module _ (g : Flat) where
   pub sets-full : (follow first empty reached : List ℕ) → SetsFillable g follow first empty → length reached ≡ words (g .rules) → {s : Outcome (Unit {0})} {l : Lent} → Call (fillDue g 2 (lent follow (reads (firsts first empty) reached))) (Leaves (Full g 2)) (lent follow (reads (firsts first empty) reached)) s l
       → SetsFull g (l .follow) (l .read .firsts .first) (l .read .firsts .empty)
   sets-full follow first empty reached f long {l = l} x = record { reached = l .read .reached; full = x .does (sets-due follow first empty reached f long) .left }
-
-  pub productive-full : (row : List ℕ) → RowFillable g row → (r : Filled) (row′ : List ℕ) → FillProductive g row r row′ → ProductiveDefined g row′
-  productive-full row f r row′ x = x .does (goes g (f .well) _ ∙ rw (row-right (g .rules) row (f .long))) .left
 
   pub cost-full : (cost : List ℕ) → CostFillable g cost → (r : Filled) (cost′ : List ℕ) → FillCost g cost r cost′ → CostDefined g cost′
   cost-full cost f r cost′ x = x .does (goes g (f .well) _ ∙ rw (numbers-right (g .rules) cost (f .long))) .left

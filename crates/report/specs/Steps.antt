@@ -58,7 +58,6 @@ pub record Fillable (g : Flat) (l : Tables) : Type 0 where
   pub empty-long : length (l .empty) ≡ words (g .rules)
   pub first-long : length (l .first) ≡ g .rules * words (length (g .costs))
   pub follow-long : length (l .follow) ≡ g .rules * words (length (g .costs))
-  pub productive-long : length (l .productive) ≡ words (g .rules)
   pub cost-long : length (l .cost) ≡ g .rules
 
 -- a well-formed grammar and its defined tables, from which the lines are written

@@ -15,45 +15,42 @@ use Rattle.grammar.specs.declared.Checked.the-variants.{Well}
 use Rattle.grammar.proofs.Lowest.{after-well}
 use Rattle.grammar.proofs.Well.{well}
 use Rattle.tables.specs.Call.{Call}
-use Rattle.tables.specs.Sizes.{rowWrong, numbersWrong}
-use Rattle.tables.proofs.Asking.{row-long, numbers-long}
+use Rattle.tables.specs.Sizes.{numbersWrong}
+use Rattle.tables.proofs.Asking.{numbers-long}
 use Rattle.tables.proofs.Calls.{call-refused, call-does}
 use Rattle.costs.specs.Lent.{costsOf}
 use Rattle.sentences.specs.Query.{lends, sentenceDue, Says, Sentenced}
 use Rattle.sentences.specs.Working.{Workable, Worked, Finished}
 
-module _ (g : Flat) (row cost lengths : List ℕ) (c : Checked) (is : checkedIs c ≡ checkOf g) (e : c ≡ Well) (n : ℕ) (en : n ≡ g .rules) (x y z : Bool) (ex : x ≡ rowWrong n row) (ey : y ≡ numbersWrong n cost) (ez : z ≡ numbersWrong n lengths) where
-  wrong : (x || (y || z)) ≡ (rowWrong (g .rules) row || (numbersWrong (g .rules) cost || numbersWrong (g .rules) lengths))
-  wrong = rw (ex, ey, ez, en)
+module _ (g : Flat) (cost lengths : List ℕ) (c : Checked) (is : checkedIs c ≡ checkOf g) (e : c ≡ Well) (n : ℕ) (en : n ≡ g .rules) (x y : Bool) (ex : x ≡ numbersWrong n cost) (ey : y ≡ numbersWrong n lengths) where
+  wrong : (x || y) ≡ (numbersWrong (g .rules) cost || numbersWrong (g .rules) lengths)
+  wrong = rw (ex, ey, en)
 
-  pub ask-7 : (out : List ℕ) (rule : ℕ) → (x || (y || z)) ≡ true → Call (sentenceDue g rule (lends row cost lengths out)) (Sentenced g rule out) (lends row cost lengths out) (refused 7) (lends row cost lengths out)
+  pub ask-7 : (out : List ℕ) (rule : ℕ) → (x || y) ≡ true → Call (sentenceDue g rule (lends cost lengths out)) (Sentenced g rule out) (lends cost lengths out) (refused 7) (lends cost lengths out)
   ask-7 out rule k = call-refused 7 (after-well g c _ is e ∙ rw (← wrong, k))
 
-  module _ (k : (x || (y || z)) ≡ false) where
-    pub ask-work : (choice : List ℕ) → choice ≡ replicate 512 4096 → Workable g row cost choice lengths
+  module _ (k : (x || y) ≡ false) where
+    pub ask-work : (choice : List ℕ) → choice ≡ replicate 512 4096 → Workable g cost choice lengths
     ask-work choice h =
-        let s = or-none x _ k in
-        let t = or-none y z (s .1) in
+        let s = or-none x y k in
         record {
           well = well g (sym is ∙ ap checkedIs e);
-          productive-long = row-long (g .rules) row (ap (λ i. rowWrong i row) (sym en) ∙ sym ex ∙ s .0);
-          cost-long = numbers-long (g .rules) cost (ap (λ i. numbersWrong i cost) (sym en) ∙ sym ey ∙ t .0);
+          cost-long = numbers-long (g .rules) cost (ap (λ i. numbersWrong i cost) (sym en) ∙ sym ex ∙ s .0);
           none = h;
-          lengths-long = numbers-long (g .rules) lengths (ap (λ i. numbersWrong i lengths) (sym en) ∙ sym ez ∙ t .1);
+          lengths-long = numbers-long (g .rules) lengths (ap (λ i. numbersWrong i lengths) (sym en) ∙ sym ey ∙ s .1);
         }
 
     module _ (rule r : ℕ) (er : r ≡ rule) where
-      pub ask-9 : (out : List ℕ) → n ≤ r → Call (sentenceDue g rule (lends row cost lengths out)) (Sentenced g rule out) (lends row cost lengths out) (refused 9) (lends row cost lengths out)
+      pub ask-9 : (out : List ℕ) → n ≤ r → Call (sentenceDue g rule (lends cost lengths out)) (Sentenced g rule out) (lends cost lengths out) (refused 9) (lends cost lengths out)
       ask-9 out l = call-refused 9 (after-well g c _ is e ∙ rw (← wrong, k, le-leb (g .rules) rule (omega arith)))
 
-      module _ (l : r < n) (row′ cost′ choice′ lengths′ : List ℕ) (w : Worked g row′ cost′ choice′ lengths′) where
-        pub ask-finished : Finished g r row′ cost′ choice′ lengths′
+      module _ (l : r < n) (cost′ choice′ lengths′ : List ℕ) (w : Worked g cost′ choice′ lengths′) where
+        pub ask-finished : Finished g r cost′ choice′ lengths′
         ask-finished = record { well = well g (sym is ∙ ap checkedIs e); worked = w; isRule = omega arith }
 
-        pub ask-says : (out : List ℕ) (said : Outcome ℕ) (out′ : List ℕ) → Says g (costsOf cost′) r out said out′ → Call (sentenceDue g rule (lends row cost lengths out)) (Sentenced g rule out) (lends row cost lengths out) said (lends row′ cost′ lengths′ out′)
+        pub ask-says : (out : List ℕ) (said : Outcome ℕ) (out′ : List ℕ) → Says g (costsOf cost′) r out said out′ → Call (sentenceDue g rule (lends cost lengths out)) (Sentenced g rule out) (lends cost lengths out) said (lends cost′ lengths′ out′)
         ask-says out said out′ s =
-            call-does said (lends row′ cost′ lengths′ out′) (after-well g c _ is e ∙ rw (← wrong, k, lt-leb (g .rules) rule (omega arith))) (record {
-              productive = w .marks;
+            call-does said (lends cost′ lengths′ out′) (after-well g c _ is e ∙ rw (← wrong, k, lt-leb (g .rules) rule (omega arith))) (record {
               cost = w .prices;
               lengths = w .counts;
               says = rw er at s;

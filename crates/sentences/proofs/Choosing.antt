@@ -5,17 +5,17 @@ use mathlib.Core.Path.{_≡_, refl, sym, ap, _∙_, subst}
 use Prim.Native.Nat.{ℕ, _+_, _-_, _≤_, _<_, min}
 use native.Mathlib.Decide.{decLt, ℕ-discrete}
 use native.Mathlib.Omega.{arith}
-use lib.Dec.{eqb, leb, ltb}
+use lib.Dec.{eqb, ltb}
 use lib.ListN.{length, getD, set, replicate, length-set, length-replicate, getD-replicate, List·getD-eq-default}
 use lib.Seq.{getD-set-same, getD-set-other}
-use borrow.Author.Tests.{eqb-true, le-leb, lt-leb, ltb-true, ltb-false, lt-ltb, le-ltb, eq-eqb, ne-eqb}
+use borrow.Author.Tests.{le-leb, lt-leb, ltb-true, ltb-false, le-ltb, eq-eqb, ne-eqb}
 use Rattle.theory.specs.Below.{FirstBelow}
 use Rattle.theory.specs.Levels.{suits}
 use Rattle.theory.specs.Visits.{formCost}
 use Rattle.theory.proofs.Choices.{chosen-all}
+use Rattle.theory.proofs.Cost.{sum-cut}
 use Rattle.grammar.specs.Flat.{Flat, flat, at, ProdAt, form, denoted, price}
 use Rattle.grammar.specs.Links.{Leads, Linked, Linkable}
-use Rattle.grammar.specs.Well.{WellFormed}
 use Rattle.grammar.proofs.Forms.{Placed, placed}
 use Rattle.grammar.proofs.Linking.{linkable}
 use Rattle.costs.specs.Lent.{costsOf, sumOf}
@@ -94,9 +94,9 @@ module _ (rules : ℕ) (owners starts symbols costs next cost : List ℕ) (r p :
             abbrev f : ℕ
             f = formCost (at costs) (costsOf cost) (denoted g .body q)
 
-            cut : s ≡ min f 65536
+            cut : min s 65536 ≡ min f 65536
             unfolding sumOf
-            cut = es ∙ rw (at-prod .body)
+            cut = ap (λ z. min z 65536) es ∙ rw (at-prod .body) (sum-cut (at costs) (costsOf cost) (form symbols a e))
 
             fits : (b : Bool) → eqb f least ≡ b → suits (denoted g) (price g) (costsOf cost) r q ≡ b
             fits b k = rw (x .owns l, eq-eqb r r refl, held, le-leb least 65535 cheap) k

@@ -7,7 +7,7 @@ use Rattle.grammar.specs.Flat.{Flat}
 use Rattle.grammar.specs.Outcome.{Outcome, answers, refused}
 use Rattle.tables.proofs.Calls.{Both, call-one, told-apart}
 use Rattle.costs.specs.Lent.{costsOf}
-use Rattle.costs.proofs.Determined.{productive-defined-one, cost-defined-one}
+use Rattle.costs.proofs.Determined.{cost-defined-one}
 use Rattle.sentences.specs.declared.Length.{Length as Answer}
 use Rattle.sentences.specs.declared.Length.the-variants.{Is, Refused}
 use Rattle.sentences.specs.Measuring.{LengthsDefined}
@@ -21,7 +21,6 @@ lengths-defined-one g a b x y = lengths-words a b (x .long ∙ sym (y .long)) (�
 
 sentenced-one : (g : Flat) (r : ℕ) (out : List ℕ) (s t : Outcome ℕ) (a b : Lends) → Sentenced g r out s a → Sentenced g r out t b → Both s t a b
 sentenced-one g r out s t a b x y =
-    let p = productive-defined-one g (a .productive) (b .productive) (x .productive) (y .productive) in
     let c = cost-defined-one g (a .cost) (b .cost) (x .cost) (y .cost) in
     let z = subst (λ u. Says g (costsOf u) r out t (b .out)) (sym c) (y .says) in
     let f = fate g r out x in
@@ -29,7 +28,7 @@ sentenced-one g r out s t a b x y =
     let o = says-left (x .says) f ∙ sym (says-left z f) in
     record {
       said = says-said (x .says) f ∙ sym (says-said z f);
-      left = ap (λ u. lends u (a .cost) (a .lengths) (a .out)) p ∙ ap (λ u. lends (b .productive) u (a .lengths) (a .out)) c ∙ ap (λ u. lends (b .productive) (b .cost) u (a .out)) l ∙ ap (lends (b .productive) (b .cost) (b .lengths)) o;
+      left = ap (λ u. lends u (a .lengths) (a .out)) c ∙ ap (λ u. lends (b .cost) u (a .out)) l ∙ ap (lends (b .cost) (b .lengths)) o;
     }
 
 pub length-answer-one : (a b : Answer) → lengthIs a ≡ lengthIs b → a ≡ b
@@ -46,18 +45,16 @@ length-answer-one = told-apart lengthIs back same
 -- two results of the call
 pub record SameSentence (r s : Answer) (a b : Lends) : Type 0 where
   pub answer : r ≡ s
-  pub productive-words : a .productive ≡ b .productive
   pub cost-words : a .cost ≡ b .cost
   pub lengths-words : a .lengths ≡ b .lengths
   pub out-words : a .out ≡ b .out
 
-pub min-sentence-one : (g : Flat) (rule : ℕ) (productive cost lengths out : List ℕ) {r s : Answer} {p c l o p′ c′ l′ o′ : List ℕ}
-    → MinSentence g rule productive cost lengths out r p c l o → MinSentence g rule productive cost lengths out s p′ c′ l′ o′ → SameSentence r s (lends p c l o) (lends p′ c′ l′ o′)
-min-sentence-one g rule productive cost lengths out {r} {s} x y =
-    let o = call-one (sentenced-one g rule out) (sentenceDue g rule (lends productive cost lengths out)) x y in
+pub min-sentence-one : (g : Flat) (rule : ℕ) (cost lengths out : List ℕ) {r s : Answer} {c l o c′ l′ o′ : List ℕ}
+    → MinSentence g rule cost lengths out r c l o → MinSentence g rule cost lengths out s c′ l′ o′ → SameSentence r s (lends c l o) (lends c′ l′ o′)
+min-sentence-one g rule cost lengths out {r} {s} x y =
+    let o = call-one (sentenced-one g rule out) (sentenceDue g rule (lends cost lengths out)) x y in
     record {
       answer = length-answer-one r s (o .said);
-      productive-words = ap (λ z. z .productive) (o .left);
       cost-words = ap (λ z. z .cost) (o .left);
       lengths-words = ap (λ z. z .lengths) (o .left);
       out-words = ap (λ z. z .out) (o .left);

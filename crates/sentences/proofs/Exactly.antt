@@ -1,8 +1,7 @@
 -- What becomes of a rule: no sentence, only dear ones, a circular choice, a sentence that does not fit, or one that does; what is said of each, and of no other.
-use mathlib.Core.Bool.{Bool, true, false, true≢false}
 use mathlib.Core.List.{List, [], _∷_, _++_}
 use mathlib.Core.Logic.{_⊎_, inl, inr, _↔_}
-use mathlib.Core.Path.{_≡_, refl, sym, _∙_}
+use mathlib.Core.Path.{_≡_, sym, _∙_}
 use Prim.Native.Nat.{ℕ, _≤_, _<_}
 use native.Mathlib.Decide.{decLe}
 use native.Mathlib.Omega.{arith}
@@ -16,8 +15,8 @@ use Rattle.theory.proofs.Sentences.{grounded-expands, sentence-of}
 use Rattle.grammar.specs.Flat.{Flat, denoted, price}
 use Rattle.grammar.specs.Outcome.{Outcome, answers, refused}
 use Rattle.grammar.proofs.Outcomes.{not-both, refused-one, answers-one}
-use Rattle.costs.specs.Lent.{rowOf, costsOf}
-use Rattle.costs.proofs.Exactly.{Dear, Least}
+use Rattle.costs.specs.Lent.{costsOf}
+use Rattle.costs.proofs.Exactly.{Dear, Least, kinds}
 use Rattle.sentences.specs.Lent.{lengthsOf}
 use Rattle.sentences.specs.Query.{Lends, Says, Sentenced}
 
@@ -34,26 +33,20 @@ pub data Fate (g : Flat) (c : Costs) (r : ℕ) (out : List ℕ) : Type 0 where
 
 -- it is one of the five, by the tables
 pub fate : (g : Flat) (r : ℕ) (out : List ℕ) {s : Outcome ℕ} {a : Lends} → Sentenced g r out s a → Fate g (costsOf (a .cost)) r out
-fate g r out {s} {a} x = go (rowOf (g .rules) (a .productive) r) refl
+fate g r out {s} {a} x = elim (kinds g r (x .cost)) [
+  | inl h ↦ none h
+  | inr (inl h) ↦ dear h
+  | inr (inr h) ↦ let l = x .lengths .exact r in elim (decLe (lengthsOf (a .lengths) r) 65536) [
+    | yes i ↦ let w = grounded-expands (length-grounded l i) in fits (w .0) (w .1)
+    | no i ↦ circular h (λ y. i (grounded-length l y))
+  ]
+]
   where
     fits : (w : List ℕ) → Expands (denoted g) (price g) (costsOf (a .cost)) (rul r ∷ []) w → Fate g (costsOf (a .cost)) r out
     fits w y = elim (decLe (length w) 65535) [
       | yes l ↦ elim (decLe (length w) (length out)) [ yes k ↦ is w y l k | no k ↦ long w y (inr (omega arith)) ]
       | no l ↦ long w y (inl (omega arith))
     ]
-
-    go : (m : Bool) → rowOf (g .rules) (a .productive) r ≡ m → Fate g (costsOf (a .cost)) r out
-    go false e = none (λ k. true≢false (sym (x .productive .exact r .0 k) ∙ e))
-    go true e =
-        let d = x .cost .exact r in
-        let l = x .lengths .exact r in
-        elim (decLe (costsOf (a .cost) r) 65535) [
-          | no k ↦ dear (x .productive .exact r .1 e, λ w y. omega (arith, d .least w y))
-          | yes k ↦ elim (decLe (lengthsOf (a .lengths) r) 65536) [
-            | yes i ↦ let w = grounded-expands (length-grounded l i) in fits (w .0) (w .1)
-            | no i ↦ circular (costsOf (a .cost) r, k, d) (λ y. i (grounded-length l y))
-          ]
-        ]
 
 -- what is said of each
 abbrev pub said : {g : Flat} {c : Costs} {r : ℕ} {out : List ℕ} → Fate g c r out → Outcome ℕ

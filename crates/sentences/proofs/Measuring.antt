@@ -11,9 +11,9 @@ use lib.Seq.{getD-set-same, getD-set-other, ext-getD}
 use borrow.Author.Tests.{leb-true, le-leb, lt-ltb, le-ltb, eq-eqb, ne-eqb}
 use Rattle.theory.specs.Below.{count}
 use Rattle.theory.specs.Fills.{turn, turns, Moves}
-use Rattle.theory.specs.Levels.{known, formLength, lengthVisit, lengthCleared, LengthTrue}
+use Rattle.theory.specs.Levels.{formLength, lengthVisit, lengthCleared, LengthTrue}
 use Rattle.theory.specs.Rounds.{run}
-use Rattle.theory.specs.Visits.{allMarked}
+use Rattle.theory.specs.Visits.{allMarked, known}
 use Rattle.theory.proofs.Bools.{and-split, and-join}
 use Rattle.theory.proofs.Fills.{Filling, turned, Settling, left}
 use Rattle.theory.proofs.Lengths.{LengthFits, length-climb, length-any-order, length-cleared-true}

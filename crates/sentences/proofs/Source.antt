@@ -1,5 +1,5 @@
 -- Demand 2 for sentences, on every grammar that the crate can build: where the source returns, the length fits and no used production has the place that document 01 names, its result is ours.
-use mathlib.Core.List.{List, [], _∷_, _++_, List·Memᴰ, List·Memᴰ·head, List·Memᴰ·cases-cons, List·Memᴰ·not-nil, Memᴰ·append-right}
+use mathlib.Core.List.{List, [], _∷_, List·Memᴰ, List·Memᴰ·head, List·Memᴰ·cases-cons, List·Memᴰ·not-nil, Memᴰ·append-right}
 use mathlib.Core.Bool.{false, false≢true}
 use mathlib.Core.Logic.{inl, inr}
 use mathlib.Core.Path.{_≡_, refl, sym, ap, _∙_, subst}
@@ -7,11 +7,11 @@ use Prim.Native.Nat.{ℕ, zero, suc, _≤_, _<_}
 use native.Mathlib.Omega.{arith}
 use lib.ListN.{length}
 use Rattle.theory.specs.Below.{some}
-use Rattle.theory.specs.Grammar.{tok, rul, Form}
+use Rattle.theory.specs.Grammar.{tok, rul}
 use Rattle.theory.specs.Sentences.{Choice}
 use Rattle.theory.specs.Visits.{Costs}
 use Rattle.source.specs.Costs.{start, Returns as CostsReturn}
-use Rattle.source.specs.Sentence.{Returns, NoPlace, Uses, first, inner, Place}
+use Rattle.source.specs.Sentence.{Returns, NoPlace, first, inner}
 use Rattle.source.proofs.Running.{stuck-never, sentence-return}
 use Rattle.source.proofs.Sentence.{sentence-same}
 use Rattle.grammar.specs.Flat.{Flat, flat, at, denoted, price}
@@ -31,11 +31,11 @@ pub source-equal : (g : Flat) → Built g → (r : ℕ) (out : List ℕ) {s : Ou
 source-equal g w r out {a = a} x b v y h short room = x .says .is v (sentence-same (denoted g) (price g) (proper g (w .well)) b (costsOf (a .cost)) (x .cost .exact) y h) short room
 
 -- the same of a call, whatever was lent to it
-pub call-source : (g : Flat) → Built g → (r : ℕ) (productive cost lengths out : List ℕ) → sentenceDue g r (lends productive cost lengths out) ≡ answers tt
-    → (q : Answer) (productive′ cost′ lengths′ out′ : List ℕ) → MinSentence g r productive cost lengths out q productive′ cost′ lengths′ out′
+pub call-source : (g : Flat) → Built g → (r : ℕ) (cost lengths out : List ℕ) → sentenceDue g r (lends cost lengths out) ≡ answers tt
+    → (q : Answer) (cost′ lengths′ out′ : List ℕ) → MinSentence g r cost lengths out q cost′ lengths′ out′
     → (b : Costs) (v : List ℕ) → Returns (denoted g) (price g) b r v → NoPlace (denoted g) (price g) (costsOf cost′) r
     → length v ≤ 65535 → length v ≤ length out → Writes v out (lengthIs q) out′
-call-source g w r productive cost lengths out due q productive′ cost′ lengths′ out′ m b v y h short room = source-equal g w r out (m .does due) b v y h short room
+call-source g w r cost lengths out due q cost′ lengths′ out′ m b v y h short room = source-equal g w r out (m .does due) b v y h short room
 
 -- A: a; B: B. Rules 1 A, 2 B; token 0 a
 abbrev pub lone : Flat
@@ -75,7 +75,7 @@ lone-place c p (first d) x = bare (x .rule) (subst (λ z. List·Memᴰ (rul (x .
 lone-place c p (inner {q = q} {s = s} d m u) x = bare s (subst (λ z. List·Memᴰ (rul s) (denoted lone .body z)) (lone-choice q d) m)
 
 -- so a call with room for it writes a
-pub lone-writes : (productive cost lengths out : List ℕ) → sentenceDue lone 1 (lends productive cost lengths out) ≡ answers tt → 1 ≤ length out
-    → (q : Answer) (productive′ cost′ lengths′ out′ : List ℕ) → MinSentence lone 1 productive cost lengths out q productive′ cost′ lengths′ out′ → Writes (0 ∷ []) out (lengthIs q) out′
-lone-writes productive cost lengths out due room q productive′ cost′ lengths′ out′ m =
-    call-source lone lone-built 1 productive cost lengths out due q productive′ cost′ lengths′ out′ m (λ r. 0) (0 ∷ []) (lone-returns (λ r. 0)) (lone-place (costsOf cost′)) (omega arith) room
+pub lone-writes : (cost lengths out : List ℕ) → sentenceDue lone 1 (lends cost lengths out) ≡ answers tt → 1 ≤ length out
+    → (q : Answer) (cost′ lengths′ out′ : List ℕ) → MinSentence lone 1 cost lengths out q cost′ lengths′ out′ → Writes (0 ∷ []) out (lengthIs q) out′
+lone-writes cost lengths out due room q cost′ lengths′ out′ m =
+    call-source lone lone-built 1 cost lengths out due q cost′ lengths′ out′ m (λ r. 0) (0 ∷ []) (lone-returns (λ r. 0)) (lone-place (costsOf cost′)) (omega arith) room

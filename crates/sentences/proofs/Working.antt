@@ -3,15 +3,12 @@ use mathlib.Core.List.{List}
 use Prim.Native.Nat.{ℕ}
 use Rattle.grammar.specs.Flat.{Flat}
 use Rattle.costs.specs.Lent.{costsOf}
-use Rattle.costs.specs.Defined.{RowFillable, ProductiveDefined, CostFillable, CostDefined}
+use Rattle.costs.specs.Defined.{CostFillable, CostDefined}
 use Rattle.sentences.specs.Choosing.{Choosable, FirstChoices}
 use Rattle.sentences.specs.Measuring.{LengthFillable, LengthsBy}
 use Rattle.sentences.specs.Working.{Workable, Worked}
 
-module _ (g : Flat) (productive cost choice lengths : List ℕ) (ok : Workable g productive cost choice lengths) where
-  pub work-productive : RowFillable g productive
-  work-productive = record { well = ok .well; long = ok .productive-long }
-
+module _ (g : Flat) (cost choice lengths : List ℕ) (ok : Workable g cost choice lengths) where
   pub work-cost : CostFillable g cost
   work-cost = record { well = ok .well; long = ok .cost-long }
 
@@ -23,5 +20,5 @@ module _ (g : Flat) (productive cost choice lengths : List ℕ) (ok : Workable g
       pub work-lengths : LengthFillable g choice′ lengths
       work-lengths = record { well = ok .well; picks = record { room = h .room; table = costsOf cost′; chosen = h .chosen }; long = ok .lengths-long }
 
-      pub work-done : (productive′ lengths′ : List ℕ) → ProductiveDefined g productive′ → LengthsBy g choice′ lengths′ → Worked g productive′ cost′ choice′ lengths′
-      work-done productive′ lengths′ p l = record { marks = p; prices = d; picks = h; counts = l (costsOf cost′) (h .chosen) }
+      pub work-done : (lengths′ : List ℕ) → LengthsBy g choice′ lengths′ → Worked g cost′ choice′ lengths′
+      work-done lengths′ l = record { prices = d; picks = h; counts = l (costsOf cost′) (h .chosen) }

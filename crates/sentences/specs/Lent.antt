@@ -3,6 +3,7 @@ use mathlib.Core.List.{List}
 use Prim.Native.Nat.{ℕ}
 use lib.Dec.{ltb}
 use lib.ListN.{getD}
+use Rattle.theory.specs.Entries.{lengthNone}
 use Rattle.theory.specs.Levels.{Choices}
 use Rattle.theory.specs.Visits.{Costs}
 
@@ -12,4 +13,4 @@ choicesOf ws = record { has = λ r. ltb (getD ws r 4096) 4096; prod = λ r. getD
 
 -- lengths: a number for each rule, 65537 for none known; none is known outside the rules
 unfoldable pub lengthsOf : List ℕ → Costs
-lengthsOf ws = λ r. getD ws r 65537
+lengthsOf ws = λ r. getD ws r lengthNone

@@ -1,24 +1,20 @@
 -- Lengths on lent numbers: one rule's step, rounds of it, and what they leave.
-use mathlib.Core.Bool.{Bool, cond}
-use mathlib.Core.List.{List, [], _∷_}
+use mathlib.Core.Bool.{Bool}
+use mathlib.Core.List.{List}
 use mathlib.Core.Path.{_≡_}
-use Prim.Native.Nat.{ℕ, _+_, _≤_, _<_, min}
+use Prim.Native.Nat.{ℕ, _+_, _≤_, _<_}
 use lib.ListN.{length}
 use Rattle.theory.specs.Fills.{turns, Moves, Settles}
 use Rattle.theory.specs.Grammar.{Form}
-use Rattle.theory.specs.Levels.{Chosen, formLength, known, lengthVisit, LengthTrue, LengthExact}
-use Rattle.theory.specs.Visits.{Costs, allMarked}
-use Rattle.grammar.specs.Flat.{Flat, at, symbol, denoted, price}
+use Rattle.theory.specs.Levels.{Chosen, lengthVisit, LengthTrue, LengthExact}
+use Rattle.theory.specs.Visits.{Costs, sumCost}
+use Rattle.grammar.specs.Flat.{Flat, at, denoted, price}
 use Rattle.grammar.specs.Well.{WellFormed}
 use Rattle.sentences.specs.Lent.{choicesOf, lengthsOf}
 
--- what a symbol adds: a token 1, a rule its entry
-unfoldable pub symbolLength : List ℕ → ℕ → ℕ
-symbolLength lengths s = formLength (lengthsOf lengths) (symbol s ∷ [])
-
--- the token count of a form, 65536 if above 65535, 65537 if some rule's is not known
+-- the token count of a form, 65536 if above 65535, 65537 if some rule's is not known: the sum in which a token adds 1 and a rule its entry
 unfoldable pub countOf : List ℕ → Form → ℕ
-countOf lengths α = cond (allMarked (known (lengthsOf lengths)) α) (min (formLength (lengthsOf lengths) α) 65536) 65537
+countOf lengths α = sumCost (λ t. 1) (lengthsOf lengths) α
 
 -- what it takes to look up a symbol's length
 pub record SymbolCounted (lengths : List ℕ) (s : ℕ) : Type 0 where

@@ -6,6 +6,7 @@ use mathlib.Core.Path.{_≡_}
 use Prim.Native.Nat.{ℕ, _≤_, _<_}
 use lib.Dec.{leb}
 use lib.ListN.{length, drop}
+use Rattle.theory.specs.Entries.{costMax, lengthMax}
 use Rattle.theory.specs.Definitions.{Sentence, costOf, Productive, Cost}
 use Rattle.theory.specs.Grammar.{rul}
 use Rattle.theory.specs.Sentences.{Grounded, Expands}
@@ -14,9 +15,9 @@ use Rattle.grammar.specs.Flat.{Flat, denoted, price}
 use Rattle.grammar.specs.Outcome.{Outcome, answers, refused, unless}
 use Rattle.grammar.specs.Refusals.{unlessDue}
 use Rattle.tables.specs.Call.{Call}
-use Rattle.tables.specs.Sizes.{rowWrong, numbersWrong}
+use Rattle.tables.specs.Sizes.{numbersWrong}
 use Rattle.costs.specs.Lent.{costsOf}
-use Rattle.costs.specs.Defined.{ProductiveDefined, CostDefined}
+use Rattle.costs.specs.Defined.{CostDefined}
 use Rattle.sentences.specs.declared.Length.{Length as Answer}
 use Rattle.sentences.specs.declared.Length.the-variants.{Is, Refused}
 use Rattle.sentences.specs.Measuring.{LengthsDefined}
@@ -26,20 +27,19 @@ abbrev pub lengthIs : Answer → Outcome ℕ
 lengthIs (Is n) = answers n
 lengthIs (Refused n) = refused n
 
--- what is lent: the working tables (PRODUCTIVE, COST and one length number a rule), and the output
+-- what is lent: the working tables (COST and one length number a rule), and the output
 pub record Lends : Type 0 where
-  pub productive : List ℕ
   pub cost : List ℕ
   pub lengths : List ℕ
   pub out : List ℕ
 
-abbrev pub lends : (productive cost lengths out : List ℕ) → Lends
-lends productive cost lengths out = record { productive = productive; cost = cost; lengths = lengths; out = out }
+abbrev pub lends : (cost lengths out : List ℕ) → Lends
+lends cost lengths out = record { cost = cost; lengths = lengths; out = out }
 
 -- 7: a lent table is not of its exact length; 9: the rule's number is R or more
 abbrev pub sentenceDue : Flat → ℕ → Lends → Outcome (Unit {0})
 sentenceDue g r m =
-    unlessDue g (unless (rowWrong (g .rules) (m .productive) || (numbersWrong (g .rules) (m .cost) || numbersWrong (g .rules) (m .lengths))) 7 (unless (leb (g .rules) r) 9 (answers tt)))
+    unlessDue g (unless (numbersWrong (g .rules) (m .cost) || numbersWrong (g .rules) (m .lengths)) 7 (unless (leb (g .rules) r) 9 (answers tt)))
 
 -- a refusal answers its number, and the output is untouched
 pub record Refuses (n : ℕ) (out : List ℕ) (said : Outcome ℕ) (out′ : List ℕ) : Type 0 where
@@ -56,19 +56,17 @@ pub record Writes (w out : List ℕ) (said : Outcome ℕ) (out′ : List ℕ) : 
 -- 15 if its sentence is longer than 65535 or than the room lent, else the sentence, each rule replaced by its first choice
 pub record Says (g : Flat) (c : Costs) (r : ℕ) (out : List ℕ) (said : Outcome ℕ) (out′ : List ℕ) : Type 0 where
   pub none : (Productive (denoted g) r → ⊥) → Refuses 12 out said out′
-  pub dear : Productive (denoted g) r → ((w : List ℕ) → Sentence (denoted g) r w → 65536 ≤ costOf (price g) w) → Refuses 13 out said out′
-  pub circular : (n : ℕ) → n ≤ 65535 → Cost (denoted g) (price g) r n → (Grounded (denoted g) (price g) c (rul r ∷ []) → ⊥) → Refuses 14 out said out′
-  pub long : (w : List ℕ) → Expands (denoted g) (price g) c (rul r ∷ []) w → (65535 < length w) ⊎ (length out < length w) → Refuses 15 out said out′
-  pub is : (w : List ℕ) → Expands (denoted g) (price g) c (rul r ∷ []) w → length w ≤ 65535 → length w ≤ length out → Writes w out said out′
+  pub dear : Productive (denoted g) r → ((w : List ℕ) → Sentence (denoted g) r w → costMax < costOf (price g) w) → Refuses 13 out said out′
+  pub circular : (n : ℕ) → n ≤ costMax → Cost (denoted g) (price g) r n → (Grounded (denoted g) (price g) c (rul r ∷ []) → ⊥) → Refuses 14 out said out′
+  pub long : (w : List ℕ) → Expands (denoted g) (price g) c (rul r ∷ []) w → (lengthMax < length w) ⊎ (length out < length w) → Refuses 15 out said out′
+  pub is : (w : List ℕ) → Expands (denoted g) (price g) c (rul r ∷ []) w → length w ≤ lengthMax → length w ≤ length out → Writes w out said out′
 
 -- the working tables hold their final values, whatever is said
 pub record Sentenced (g : Flat) (r : ℕ) (out : List ℕ) (said : Outcome ℕ) (after : Lends) : Type 0 where
-  pub productive : ProductiveDefined g (after .productive)
   pub cost : CostDefined g (after .cost)
   pub lengths : LengthsDefined g (costsOf (after .cost)) (after .lengths)
   pub says : Says g (costsOf (after .cost)) r out said (after .out)
 
 -- the promise
-abbrev pub MinSentence : Flat → ℕ → (productive cost lengths out : List ℕ) → Answer → (productive′ cost′ lengths′ out′ : List ℕ) → Type 0
-MinSentence g r productive cost lengths out a productive′ cost′ lengths′ out′ =
-    Call (sentenceDue g r (lends productive cost lengths out)) (Sentenced g r out) (lends productive cost lengths out) (lengthIs a) (lends productive′ cost′ lengths′ out′)
+abbrev pub MinSentence : Flat → ℕ → (cost lengths out : List ℕ) → Answer → (cost′ lengths′ out′ : List ℕ) → Type 0
+MinSentence g r cost lengths out a cost′ lengths′ out′ = Call (sentenceDue g r (lends cost lengths out)) (Sentenced g r out) (lends cost lengths out) (lengthIs a) (lends cost′ lengths′ out′)

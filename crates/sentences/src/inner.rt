@@ -1,10 +1,11 @@
 // The sentence below the public call: its working tables, and the answer from them.
+use crate::LENGTH_LONG;
+use crate::LENGTH_MAX;
 use crate::Length;
 use costs::inner::cost_fill;
 use costs::inner::entry_at;
-use costs::inner::productive_fill;
+use costs::inner::entry_due;
 use grammar::inner::wide;
-use tables::inner::words_for;
 ghost use mathlib.Core.Path.{_≡_};
 ghost use Rattle.grammar.specs.Flat.{flat};
 ghost use Rattle.costs.specs.Lent.{costsOf};
@@ -19,22 +20,20 @@ use crate::inner::choices::choices;
 use crate::inner::expansion::expand_rule;
 use crate::inner::lengths::length_fill;
 
-// Leaves PRODUCTIVE, COST, the first choices and the lengths.
+// Leaves COST, the first choices and the lengths.
 pub fn work(
     rules: u16,
     owners: &[u16],
     starts: &[u16],
     symbols: &[u16],
     costs: &[u8],
-    productive: &mut [u32],
     cost: &mut [u32],
     choice: &mut [u16; 512],
     lengths: &mut [u32],
 )
-    requires { ⌜ Workable (flat rules (now owners) (now starts) (now symbols) (now costs)) (now productive) (now cost) (now choice) (now lengths) ⌝ }
-    ensures { λ _. ⌜ Worked (flat rules (now (owners .entry)) (now (starts .entry)) (now (symbols .entry)) (now (costs .entry))) (now (productive .exit)) (now (cost .exit)) (now (choice .exit)) (now (lengths .exit)) ⌝ }
+    requires { ⌜ Workable (flat rules (now owners) (now starts) (now symbols) (now costs)) (now cost) (now choice) (now lengths) ⌝ }
+    ensures { λ _. ⌜ Worked (flat rules (now (owners .entry)) (now (starts .entry)) (now (symbols .entry)) (now (costs .entry))) (now (cost .exit)) (now (choice .exit)) (now (lengths .exit)) ⌝ }
 {
-    productive_fill(rules, owners, starts, symbols, costs, productive);
     cost_fill(rules, owners, starts, symbols, costs, cost);
     choices(rules, owners, starts, symbols, costs, cost, choice);
     length_fill(rules, owners, starts, symbols, costs, choice, lengths);
@@ -54,27 +53,23 @@ pub fn answer(
     symbols: &[u16],
     costs: &[u8],
     r: usize,
-    productive: &[u32],
     cost: &[u32],
     choice: &[u16; 512],
     lengths: &[u32],
     out: &mut [u16],
 ) -> Length
-    requires { ⌜ Finished (flat rules (now owners) (now starts) (now symbols) (now costs)) r (now productive) (now cost) (now choice) (now lengths) ⌝ }
+    requires { ⌜ Finished (flat rules (now owners) (now starts) (now symbols) (now costs)) r (now cost) (now choice) (now lengths) ⌝ }
     ensures { λ a. ⌜ Says (flat rules (now (owners .entry)) (now (starts .entry)) (now (symbols .entry)) (now (costs .entry))) (costsOf (now (cost .entry))) r (now (out .entry)) (lengthIs a) (now (out .exit)) ⌝ }
 {
-    let n = wide(rules);
-    if !rows::inner::is_set(productive, words_for(n), 0, r) {
-        return Length::Refused(12);
-    }
-    if 65535 < entry_at(cost, r) {
-        return Length::Refused(13);
+    let due = entry_due(entry_at(cost, r));
+    if due != 0 {
+        return Length::Refused(due);
     }
     let long = entry_at(lengths, r);
-    if 65536 < long {
+    if LENGTH_LONG < long {
         return Length::Refused(14);
     }
-    if (long <= 65535) & (size(long) <= out.len()) {
+    if (long <= LENGTH_MAX) & (size(long) <= out.len()) {
         expand_rule(
             rules,
             owners,
@@ -83,7 +78,7 @@ pub fn answer(
             costs,
             choice,
             lengths,
-            n,
+            wide(rules),
             r,
             0,
             out,

@@ -5,11 +5,19 @@ use grammar::RIdx;
 use grammar::inner::number;
 use grammar::inner::wide;
 use tables::inner::numbers_wrong;
-use tables::inner::row_wrong;
 ghost use Rattle.grammar.specs.Flat.{flat};
 ghost use Rattle.sentences.specs.Query.{MinSentence};
 
 pub mod inner;
+
+// Lengths: an entry up to this is the token count of the rule's sentence.
+pub const LENGTH_MAX: u32 = 65535;
+
+// Lengths: the sentence is longer than 65535.
+pub const LENGTH_LONG: u32 = 65536;
+
+// Lengths: the rule is ungrounded or has no cost.
+pub const LENGTH_NONE: u32 = 65537;
 
 // What the sentence call answers.
 pub enum Length {
@@ -17,7 +25,7 @@ pub enum Length {
     Refused(u16),
 }
 
-// Writes the cheapest sentence of `rule` to the front of `out`; its length. Fills the three tables.
+// Writes the cheapest sentence of `rule` to the front of `out`; its length. Fills both tables.
 // Refusals 1 to 7, 9, and once the tables are final 12 to 15.
 pub fn min_sentence(
     rules: u16,
@@ -26,19 +34,18 @@ pub fn min_sentence(
     symbols: &[u16],
     costs: &[u8],
     rule: RIdx,
-    productive: &mut [u32],
     cost: &mut [u32],
     lengths: &mut [u32],
     out: &mut [u16],
 ) -> Length
-    ensures { λ r. ⌜ MinSentence (flat rules (now (owners .entry)) (now (starts .entry)) (now (symbols .entry)) (now (costs .entry))) (rule .0) (now (productive .entry)) (now (cost .entry)) (now (lengths .entry)) (now (out .entry)) r (now (productive .exit)) (now (cost .exit)) (now (lengths .exit)) (now (out .exit)) ⌝ }
+    ensures { λ r. ⌜ MinSentence (flat rules (now (owners .entry)) (now (starts .entry)) (now (symbols .entry)) (now (costs .entry))) (rule .0) (now (cost .entry)) (now (lengths .entry)) (now (out .entry)) r (now (cost .exit)) (now (lengths .exit)) (now (out .exit)) ⌝ }
 {
     let c = grammar::check(rules, owners, starts, symbols, costs);
     let Checked::Well = c else {
         return Length::Refused(number(c));
     };
     let n = wide(rules);
-    if row_wrong(n, productive) | (numbers_wrong(n, cost) | numbers_wrong(n, lengths)) {
+    if numbers_wrong(n, cost) | numbers_wrong(n, lengths) {
         return Length::Refused(7);
     }
     let r = wide(rule.0);
@@ -52,7 +59,6 @@ pub fn min_sentence(
         starts,
         symbols,
         costs,
-        productive,
         cost,
         &mut choice,
         lengths,
@@ -64,7 +70,6 @@ pub fn min_sentence(
         symbols,
         costs,
         r,
-        productive,
         cost,
         &choice,
         lengths,

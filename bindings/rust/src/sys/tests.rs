@@ -34,7 +34,7 @@ fn seven_for_mark_tables() {
 #[test]
 fn seven_for_rows_and_numbers() {
     for len in [0, 2, 5] {
-        let (mut wrong, mut row, mut cost, mut out) = (vec![9; len], [9; 1], [9; 4], [9; 8]);
+        let (mut wrong, mut cost, mut out) = (vec![9; len], [9; 4], [9; 8]);
         assert_eq!(refused(rule_mark(G1, &wrong, 0)), 7);
         assert_eq!(refused(first_fill(G1, &mut cost, &mut wrong)), 7);
         assert_eq!(refused(reached_fill(G1, &mut wrong)), 7);
@@ -44,23 +44,24 @@ fn seven_for_rows_and_numbers() {
         assert_eq!(refused(cost_clear(G1, &mut wrong)), 7);
         assert_eq!(refused(cost_visit(G1, 0, &mut wrong)), 7);
         assert_eq!(refused(cost_fill(G1, &mut wrong)), 7);
-        assert_eq!(refused(min_sentence_cost(G1, 0, &mut row, &mut wrong)), 7);
-        assert_eq!(refused(min_sentence(G1, 0, &mut row, &mut cost, &mut wrong, &mut out)), 7);
-        assert_eq!((wrong, row, cost, out), (vec![9; len], [9; 1], [9; 4], [9; 8]));
+        assert_eq!(refused(min_sentence_cost(G1, 0, &mut wrong)), 7);
+        assert_eq!(refused(min_sentence(G1, 0, &mut cost, &mut wrong, &mut out)), 7);
+        assert_eq!(refused(min_sentence(G1, 0, &mut wrong, &mut cost, &mut out)), 7);
+        assert_eq!((wrong, cost, out), (vec![9; len], [9; 4], [9; 8]));
     }
 }
 
-/// Each of the four tables of the calls on all cheapest sentences; 7 comes before 9.
+/// Each of the three tables of the calls on all cheapest sentences; 7 comes before 9.
 #[test]
 fn seven_for_the_tables_of_lists() {
-    for (at, len) in (0..4).flat_map(|at| [0, 2, 3, 5].map(|len| (at, len))) {
+    for (at, len) in (0..3).flat_map(|at| [0, 2, 3, 5].map(|len| (at, len))) {
         for rule in [0, 4] {
-            let mut tables = [vec![9; 1], vec![9; 4], vec![9; 4], vec![9; 4]];
+            let mut tables = [vec![9; 4], vec![9; 4], vec![9; 4]];
             tables[at] = vec![9; len];
             let (before, mut out) = (tables.clone(), [9; 8]);
-            let [productive, cost, lengths, counts] = &mut tables;
-            assert_eq!(refused(count_min_sentences(G1, rule, productive, cost, lengths, counts)), 7, "table {at}");
-            let lent = [&mut productive[..], cost, lengths, counts];
+            let [cost, lengths, counts] = &mut tables;
+            assert_eq!(refused(count_min_sentences(G1, rule, cost, lengths, counts)), 7, "table {at}");
+            let lent = [&mut cost[..], lengths, counts];
             assert_eq!(refused(min_sentence_at(G1, rule, 9, lent, &mut out)), 7, "table {at}");
             assert_eq!((tables, out), (before, [9; 8]));
         }
@@ -73,11 +74,11 @@ fn short_room_for_a_number_of_a_list() {
     let starts = &[0, 1, 2, 3];
     let g = Flat { rules: 2, owners: &[0, 1, 1], starts, symbols: &[32769, 0, 1], costs: &[1, 1, 1] };
     for (k, room, answer) in [(0, 0, Err(15)), (2, 0, Err(16)), (u32::MAX, 9, Err(16)), (1, 1, Ok(1)), (1, 3, Ok(1))] {
-        let (mut productive, mut cost, mut lengths, mut counts) = ([9; 1], [9; 2], [9; 2], [9; 2]);
+        let (mut cost, mut lengths, mut counts) = ([9; 2], [9; 2], [9; 2]);
         let mut out = vec![9; room];
-        let said = min_sentence_at(g, 1, k, [&mut productive, &mut cost, &mut lengths, &mut counts], &mut out);
+        let said = min_sentence_at(g, 1, k, [&mut cost, &mut lengths, &mut counts], &mut out);
         assert_eq!(said.number().map_err(Refusal::number), answer, "number {k}, room {room}");
-        assert_eq!((productive, cost, lengths, counts), ([3], [1, 1], [1, 1], [2, 2]));
+        assert_eq!((cost, lengths, counts), ([1, 1], [1, 1], [2, 2]));
         let written: Vec<u16> = answer.map_or(vec![], |_| vec![1]);
         assert_eq!(out, [&written[..], &vec![9; room - written.len()]].concat(), "number {k}, room {room}");
     }
@@ -156,9 +157,9 @@ fn a_refused_grammar_ends_every_call_first() {
     assert_eq!(refused(has_path(wrong, 9, 9)), 1);
     assert_eq!(refused(reached_fill(wrong, &mut table)), 1);
     assert_eq!(refused(follow_visit(wrong, 9, 99, &mut table, &[], &empty, &[])), 1);
-    assert_eq!(refused(min_sentence(wrong, 9, &mut table, &mut [], &mut [], &mut [])), 1);
-    assert_eq!(refused(count_min_sentences(wrong, 9, &mut table, &mut [], &mut [], &mut [])), 1);
-    assert_eq!(refused(min_sentence_at(wrong, 9, 9, [&mut table, &mut [], &mut [], &mut []], &mut [])), 1);
+    assert_eq!(refused(min_sentence(wrong, 9, &mut table, &mut [], &mut [])), 1);
+    assert_eq!(refused(count_min_sentences(wrong, 9, &mut table, &mut [], &mut [])), 1);
+    assert_eq!(refused(min_sentence_at(wrong, 9, 9, [&mut table, &mut [], &mut []], &mut [])), 1);
     assert_eq!(table, [9; 3]);
     for len in [0, 511, 600] {
         let mut out = vec![9; len];
@@ -179,7 +180,8 @@ fn words_are_where_document_01_has_them() {
     assert_eq!(reached, [0b1111]);
     let mut cost = [9; 4];
     cost_clear(G1, &mut cost).number().unwrap();
-    assert_eq!(cost, [65536; 4]);
+    assert_eq!(cost, [COST_UNKNOWN; 4]);
+    assert_eq!((COST_MAX, COST_DEAR, COST_UNKNOWN), (65535, 65536, 65537));
 }
 
 /// S: A; A: a; U: A z. Rules 1 S, 2 A, 3 U; tokens 0 a, 1 z.

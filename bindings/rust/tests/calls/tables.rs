@@ -1,5 +1,5 @@
 //! FIRST, EMPTY, FOLLOW, paths, the reached row, PRODUCTIVE and COST.
-use boltmarrow::{Grammar, Mode, PIdx, RIdx, SIdx, Symbol, TIdx};
+use boltmarrow::{Cost, Grammar, Mode, PIdx, RIdx, SIdx, Symbol, TIdx};
 
 use crate::grammars::{comma, dead, exports, g1, g2, g3, g4, g5, g5_either, g6, well, RULE};
 
@@ -27,7 +27,7 @@ fn reached(grm: &Grammar) -> Vec<bool> {
     grm.iter_rules().map(|ridx| reached.is_set(ridx).unwrap()).collect()
 }
 
-fn costs(grm: &Grammar) -> Vec<Option<u16>> {
+fn costs(grm: &Grammar) -> Vec<Cost> {
     let costs = grm.costs();
     grm.iter_rules().map(|ridx| costs.cost(ridx).unwrap()).collect()
 }
@@ -40,7 +40,7 @@ fn g1_is_as_its_report_says() {
     for mode in [Mode::Crate, Mode::Corrected] {
         assert_eq!(follows(&grm, mode), [vec![3], vec![3], vec![0], vec![3]]);
     }
-    assert_eq!(costs(&grm), [Some(1), Some(1), Some(0), Some(0)]);
+    assert_eq!(costs(&grm), [1, 1, 0, 0].map(Cost::Is));
 }
 
 #[test]
@@ -69,7 +69,7 @@ fn two_exports_in_one_grammar() {
     assert_eq!(follows(&grm, Mode::Crate), [vec![5], vec![5], vec![5], vec![3, 5], vec![4]]);
     assert_eq!(follows(&grm, Mode::Corrected), [vec![5], vec![5], vec![5], vec![3, 4, 5], vec![4]]);
     // Num 1; Daily 3 + 1 + 0 + 1, Weekly 2 + 1; the start the lesser.
-    assert_eq!(costs(&grm), [3, 5, 3, 1, 0].map(Some));
+    assert_eq!(costs(&grm), [3, 5, 3, 1, 0].map(Cost::Is));
     assert!(grm.iter_rules().all(|ridx| grm.productive().is_set(ridx).unwrap()));
     let paths = |from| [0, 1, 2, 3, 4].map(|to| grm.has_path(RIdx(from), RIdx(to)).unwrap());
     assert_eq!(paths(0), [false, true, true, true, true]);
@@ -141,12 +141,13 @@ fn a_path_takes_a_step() {
 
 #[test]
 fn costs_are_the_least() {
-    assert_eq!(costs(&g3()), [Some(1), Some(1)]);
-    assert_eq!(costs(&g4()), [None, None]);
-    assert_eq!(costs(&g5(257)), [Some(65535), Some(65535)]);
-    assert_eq!(costs(&g5(258)), [None, None]);
-    assert_eq!(costs(&g5_either()), [Some(1), Some(1)]);
-    assert_eq!(costs(&g6()), [Some(1), Some(1)]);
+    assert_eq!(costs(&g3()), [Cost::Is(1); 2]);
+    assert_eq!(costs(&g4()), [Cost::Unknown; 2]);
+    assert_eq!(costs(&g5(257)), [Cost::Is(65535); 2]);
+    assert_eq!(costs(&g5(258)), [Cost::Dear; 2]);
+    assert_eq!(costs(&g5_either()), [Cost::Is(1); 2]);
+    assert_eq!(costs(&g6()), [Cost::Is(1); 2]);
+    assert_eq!([Cost::Is(9), Cost::Dear, Cost::Unknown].map(Cost::known), [Some(9), None, None]);
 }
 
 #[test]

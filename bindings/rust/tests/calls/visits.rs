@@ -1,7 +1,7 @@
 //! Single visits.
-use boltmarrow::{Grammar, Mode, PIdx, RIdx, Refusal, TIdx};
+use boltmarrow::{Cost, Grammar, Mode, PIdx, RIdx, Refusal, TIdx};
 
-use crate::grammars::{comma, dead, exports, g1, g2, g6};
+use crate::grammars::{comma, dead, exports, g1, g2, g5_either, g6};
 
 /// Rounds over the productions, from the last to the first, until one changes nothing.
 fn rounds(grm: &Grammar, mut visit: impl FnMut(PIdx) -> Result<bool, Refusal>) {
@@ -86,23 +86,37 @@ fn each_of_the_starts_productions_makes_its_own_step() {
     let (mut costs, start) = (grm.cost_table(), grm.start_rule_idx());
     // Num, Unit, Daily, Weekly; then start: Daily and start: Weekly
     assert_eq!([3, 5, 1, 2].map(|p| costs.visit(PIdx(p))), [Ok(true); 4]);
-    assert_eq!((costs.visit(PIdx(0)), costs.cost(start)), (Ok(true), Ok(Some(5))));
-    assert_eq!((costs.visit(PIdx(6)), costs.cost(start)), (Ok(true), Ok(Some(3))));
-    assert_eq!((costs.visit(PIdx(0)), costs.cost(start)), (Ok(false), Ok(Some(3))));
+    assert_eq!((costs.visit(PIdx(0)), costs.cost(start)), (Ok(true), Ok(Cost::Is(5))));
+    assert_eq!((costs.visit(PIdx(6)), costs.cost(start)), (Ok(true), Ok(Cost::Is(3))));
+    assert_eq!((costs.visit(PIdx(0)), costs.cost(start)), (Ok(false), Ok(Cost::Is(3))));
 }
 
 #[test]
 fn cost_visits_lower_what_is_known() {
     let grm = g6();
     let (mut costs, a) = (grm.cost_table(), RIdx(1));
-    assert_eq!(costs.cost(a), Ok(None));
+    assert_eq!(costs.cost(a), Ok(Cost::Unknown));
     assert_eq!(costs.visit(PIdx(1)), Ok(false)); // A: b A
     assert_eq!(costs.visit(PIdx(2)), Ok(true)); // A: a
-    assert_eq!(costs.cost(a), Ok(Some(1)));
+    assert_eq!(costs.cost(a), Ok(Cost::Is(1)));
     assert_eq!(costs.visit(PIdx(1)), Ok(false));
-    assert_eq!((costs.visit(PIdx(0)), costs.cost(RIdx(0))), (Ok(true), Ok(Some(1))));
+    assert_eq!((costs.visit(PIdx(0)), costs.cost(RIdx(0))), (Ok(true), Ok(Cost::Is(1))));
     costs.clear();
-    assert_eq!(costs.cost(a), Ok(None));
+    assert_eq!(costs.cost(a), Ok(Cost::Unknown));
+}
+
+/// A is 258 tokens of cost 255 or one of cost 1: dear, and later lowered.
+#[test]
+fn a_dear_rule_is_seen_before_its_cost_is() {
+    let grm = g5_either();
+    let mut costs = grm.cost_table();
+    let mut visit = |p| (costs.visit(PIdx(p)).unwrap(), [0, 1].map(|r| costs.cost(RIdx(r)).unwrap()));
+    assert_eq!(visit(0), (false, [Cost::Unknown, Cost::Unknown]));
+    assert_eq!(visit(1), (true, [Cost::Unknown, Cost::Dear]));
+    assert_eq!(visit(0), (true, [Cost::Dear, Cost::Dear]));
+    assert_eq!(visit(2), (true, [Cost::Dear, Cost::Is(1)]));
+    assert_eq!(visit(1), (false, [Cost::Dear, Cost::Is(1)]));
+    assert_eq!(visit(0), (true, [Cost::Is(1), Cost::Is(1)]));
 }
 
 #[test]

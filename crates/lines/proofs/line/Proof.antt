@@ -45,7 +45,7 @@ returns-3 : tie.Need-returns-3
 returns-3 c = search (needs, line-9)
 
 write-requires : tie.Need-write-requires
-write-requires c κs = let d = c .before in let v = d .before in let s = v .before in let o = s .before in let t = o .before .before in let w = t .before in let m = w .before in let k = m .before .before in line-ready _ _ _ _ _ _ _ _ _ _ _ _ _ (k .check .ensures) (m .enum-told .given .1) _ (w .wide .ensures .0) _ _ (t .tables-wrong .ensures) (o .out-wrong .ensures) (s .if1 .left) _ (v .wide2 .ensures .0) (d .if2 .left)
+write-requires c κs = let d = c .before in let v = d .before in let s = v .before in let o = s .before in let t = o .before .before in let w = t .before in let m = w .before in let k = m .before .before in line-ready _ _ _ _ _ _ _ _ _ _ _ _ (k .check .ensures) (m .enum-told .given .1) _ (w .wide .ensures .0) _ _ (t .tables-wrong .ensures) (o .out-wrong .ensures) (s .if1 .left) _ (v .wide2 .ensures .0) (d .if2 .left)
 
 count-requires : tie.Need-count-requires
 count-requires c κs = search (needs, line-count)

@@ -19,13 +19,13 @@ number-requires : tie.Need-number-requires
 number-requires c κs = search needs
 
 returns : tie.Need-returns
-returns c = let t = c .before in let d = t .before .before in let w = d .before in ask-count-refused _ _ _ _ _ _ _ (w .wide .ensures .0) _ (d .due .ensures) _ _ (t .enum-told2 .given .1) (c .number .ensures)
+returns c = let t = c .before in let d = t .before .before in let w = d .before in ask-count-refused _ _ _ _ _ _ (w .wide .ensures .0) _ (d .due .ensures) _ _ (t .enum-told2 .given .1) (c .number .ensures)
 
 work-requires : tie.Need-work-requires
-work-requires c κs = let t = c .before .before .before .before .before .before in let d = t .before .before in let w = d .before in ask-work _ _ _ _ _ _ _ (w .wide .ensures .0) _ (d .due .ensures) (t .enum-told .given .1)
+work-requires c κs = let t = c .before .before .before .before .before in let d = t .before .before in let w = d .before in ask-work _ _ _ _ _ _ (w .wide .ensures .0) _ (d .due .ensures) (t .enum-told .given .1)
 
 count-answer-requires : tie.Need-count-answer-requires
-count-answer-requires c κs = let o = c .before .before .before .before .before .before .before .before .before .before .before in let t = o .before .before .before .before .before .before .before in let d = t .before .before in ask-count _ _ _ _ _ _ _ (d .due .ensures) (t .enum-told .given .1) _ _ _ _ _ _ (o .work .ensures)
+count-answer-requires c κs = let o = c .before .before .before .before .before .before .before .before in let t = o .before .before .before .before .before .before in let d = t .before .before in ask-count _ _ _ _ _ _ (d .due .ensures) (t .enum-told .given .1) _ _ _ _ _ (o .work .ensures)
 
 same-length : tie.Need-same-length
 same-length c = search needs
@@ -36,11 +36,8 @@ same-length-2 c = search needs
 same-length-3 : tie.Need-same-length-3
 same-length-3 c = search needs
 
-same-length-4 : tie.Need-same-length-4
-same-length-4 c = search needs
-
 returns-2 : tie.Need-returns-2
-returns-2 c = let o = c .before .before .before .before .before .before .before .before .before .before .before .before in let t = o .before .before .before .before .before .before .before in let d = t .before .before in let w = d .before in ask-counted _ _ _ _ _ _ _ (w .wide .ensures .0) _ (d .due .ensures) (t .enum-told .given .1) _ _ _ _ _ _ (o .work .ensures) _ (c .count-answer .ensures)
+returns-2 c = let o = c .before .before .before .before .before .before .before .before .before in let t = o .before .before .before .before .before .before in let d = t .before .before in let w = d .before in ask-counted _ _ _ _ _ _ (w .wide .ensures .0) _ (d .due .ensures) (t .enum-told .given .1) _ _ _ _ _ (o .work .ensures) _ (c .count-answer .ensures)
 
 pub count-min-sentences-spec : {M : Type 1} → statement M
 count-min-sentences-spec =
@@ -57,5 +54,4 @@ count-min-sentences-spec =
     same-length
     same-length-2
     same-length-3
-    same-length-4
     returns-2)

@@ -19,13 +19,13 @@ number-requires : tie.Need-number-requires
 number-requires c κs = search needs
 
 returns : tie.Need-returns
-returns c = let t = c .before in let d = t .before .before in let w = d .before in ask-number-refused _ _ _ _ _ _ _ (w .wide .ensures .0) _ (d .due .ensures) _ _ (t .enum-told2 .given .1) (c .number .ensures) _ _
+returns c = let t = c .before in let d = t .before .before in let w = d .before in ask-number-refused _ _ _ _ _ _ (w .wide .ensures .0) _ (d .due .ensures) _ _ (t .enum-told2 .given .1) (c .number .ensures) _ _
 
 work-requires : tie.Need-work-requires
-work-requires c κs = let t = c .before .before .before .before .before .before in let d = t .before .before in let w = d .before in ask-work _ _ _ _ _ _ _ (w .wide .ensures .0) _ (d .due .ensures) (t .enum-told .given .1)
+work-requires c κs = let t = c .before .before .before .before .before in let d = t .before .before in let w = d .before in ask-work _ _ _ _ _ _ (w .wide .ensures .0) _ (d .due .ensures) (t .enum-told .given .1)
 
 number-answer-requires : tie.Need-number-answer-requires
-number-answer-requires c κs = let o = c .before .before .before .before .before .before .before .before .before .before .before .before .before .before .before in let t = o .before .before .before .before .before .before .before in let d = t .before .before in ask-number _ _ _ _ _ _ _ (d .due .ensures) (t .enum-told .given .1) _ _ _ _ _ _ (o .work .ensures)
+number-answer-requires c κs = let o = c .before .before .before .before .before .before .before .before .before .before .before .before in let t = o .before .before .before .before .before .before in let d = t .before .before in ask-number _ _ _ _ _ _ (d .due .ensures) (t .enum-told .given .1) _ _ _ _ _ (o .work .ensures)
 
 same-length : tie.Need-same-length
 same-length c = search needs
@@ -39,11 +39,8 @@ same-length-3 c = search needs
 same-length-4 : tie.Need-same-length-4
 same-length-4 c = search needs
 
-same-length-5 : tie.Need-same-length-5
-same-length-5 c = search needs
-
 returns-2 : tie.Need-returns-2
-returns-2 c = let a = c .before .before in let o = a .before .before .before .before .before .before .before .before .before .before .before .before .before .before .before .before in let t = o .before .before .before .before .before .before .before in let d = t .before .before in let w = d .before in ask-numbered _ _ _ _ _ _ _ (w .wide .ensures .0) _ (d .due .ensures) (t .enum-told .given .1) _ _ _ _ _ _ (o .work .ensures) _ _ _ _ (a .number-answer .ensures)
+returns-2 c = let a = c .before .before in let o = a .before .before .before .before .before .before .before .before .before .before .before .before .before in let t = o .before .before .before .before .before .before in let d = t .before .before in let w = d .before in ask-numbered _ _ _ _ _ _ (w .wide .ensures .0) _ (d .due .ensures) (t .enum-told .given .1) _ _ _ _ _ (o .work .ensures) _ _ _ _ (a .number-answer .ensures)
 
 pub min-sentence-at-spec : {M : Type 1} → statement M
 min-sentence-at-spec =
@@ -61,5 +58,4 @@ min-sentence-at-spec =
     same-length-2
     same-length-3
     same-length-4
-    same-length-5
     returns-2)

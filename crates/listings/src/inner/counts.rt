@@ -1,29 +1,33 @@
 // Counts: a rule asks for the counts of the rules inside it, each with one level less.
+use crate::COUNT_MANY;
+use crate::COUNT_MAX;
+use crate::COUNT_NONE;
+use costs::inner::add;
 use costs::inner::entry_at;
 use grammar::inner::start_at;
 use grammar::inner::wide;
 use sentences::inner::choices::cheapest_from;
-use sentences::inner::lengths::add;
 ghost use mathlib.Core.Path.{_≡_};
 ghost use Prim.Native.Nat.{_*_, _≤_, min};
+ghost use Rattle.theory.specs.Entries.{countMany};
 ghost use Rattle.grammar.specs.Flat.{flat};
 ghost use Rattle.costs.specs.Lent.{costsOf};
 ghost use Rattle.listings.specs.Calls.{CountsDefined};
 ghost use Rattle.listings.specs.Counting.{CountFillable, RuleCountable, RuleCounts, ProductionCountable, ProductionCounts};
 
-// A product of two counts, 65536 if it is above 65535.
+// A product of two counts, many if it is above 65535.
 fn times(n: u32, x: u32) -> u32
-    requires { ⌜ (n ≤ 65536) × (x ≤ 65536) ⌝ }
-    ensures { λ r. ⌜ r ≡ min (n * x) 65536 ⌝ }
+    requires { ⌜ (n ≤ countMany) × (x ≤ countMany) ⌝ }
+    ensures { λ r. ⌜ r ≡ min (n * x) countMany ⌝ }
 {
     let product = (n as u64) * (x as u64);
-    if product <= 65535 {
+    if product <= COUNT_MAX as u64 {
         return product as u32;
     }
-    65536
+    COUNT_MANY
 }
 
-// The count of the symbols from a up to e, 65537 if some rule has none within the levels.
+// The count of the symbols from a up to e, none if some rule has none within the levels.
 fn count_production(
     rules: u16,
     owners: &[u16],
@@ -65,15 +69,15 @@ fn count_production(
             counts,
             shallow,
         );
-        if 65536 < x {
-            return 65537;
+        if COUNT_MANY < x {
+            return COUNT_NONE;
         }
         n = times(n, x);
     }
     n
 }
 
-// The count of rule r, 65537 if it has none within the levels. What is found is kept: a count in `counts`, and in
+// The count of rule r, none if it has none within the levels. What is found is kept: a count in `counts`, and in
 // `shallow` how many levels are not enough.
 fn count_rule(
     rules: u16,
@@ -93,12 +97,12 @@ fn count_rule(
     ensures { λ x. ⌜ RuleCounts (flat rules (now (owners .entry)) (now (starts .entry)) (now (symbols .entry)) (now (costs .entry))) (now (cost .entry)) levels r (now (counts .entry)) x (now (counts .exit)) (now (shallow .exit)) ⌝ }
 {
     let known = entry_at(counts, r);
-    if known <= 65536 {
+    if known <= COUNT_MANY {
         return known;
     }
     let mut p = wide(choice[r]);
     if (4096 <= p) | (levels <= wide(shallow[r])) {
-        return 65537;
+        return COUNT_NONE;
     }
     let mut total: u32 = 0;
     while p < owners.len() {
@@ -117,9 +121,9 @@ fn count_rule(
             counts,
             shallow,
         );
-        if 65536 < x {
+        if COUNT_MANY < x {
             shallow[r] = levels as u16;
-            return 65537;
+            return COUNT_NONE;
         }
         total = add(total, x);
         p = cheapest_from(
@@ -153,7 +157,7 @@ pub fn count_fill(
     requires { ⌜ CountFillable (flat rules (now owners) (now starts) (now symbols) (now costs)) (now next) (now cost) (now choice) (now counts) ⌝ }
     ensures { λ _. ⌜ CountsDefined (flat rules (now (owners .entry)) (now (starts .entry)) (now (symbols .entry)) (now (costs .entry))) (costsOf (now (cost .entry))) (now (counts .exit)) ⌝ }
 {
-    rows::inner::clear(counts, 65537);
+    rows::inner::clear(counts, COUNT_NONE);
     let n = wide(rules);
     let mut shallow = [0; 512];
     for r in 0..n {

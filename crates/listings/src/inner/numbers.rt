@@ -1,4 +1,5 @@
 // Number k of a rule: found by turning the places of its cheapest productions, measured, and written.
+use costs::inner::add;
 use costs::inner::entry_at;
 use grammar::inner::start_at;
 use grammar::inner::wide;
@@ -6,10 +7,10 @@ use odometer::inner::Turned;
 use odometer::inner::show;
 use sentences::inner::choices::cheapest_from;
 use sentences::inner::expansion::expand_rule;
-use sentences::inner::lengths::add;
 ghost use mathlib.Core.Path.{_≡_};
 ghost use Prim.Native.Nat.{min};
 ghost use lib.ListN.{length};
+ghost use Rattle.theory.specs.Entries.{lengthLong};
 ghost use Rattle.grammar.specs.Flat.{flat};
 ghost use Rattle.tables.specs.Append.{Appended};
 ghost use Rattle.listings.specs.Numbers.{PlacesReady, Places, NumberReady, Finds, RuleMeasurable, ProductionMeasurable, RuleWritable, ProductionWritable, ruleWords, productionWords};
@@ -73,7 +74,7 @@ fn find(
     }
 }
 
-// The token count of what the symbols from a up to e stand for with the choices `todo`, 65536 if above 65535.
+// The token count of what the symbols from a up to e stand for with the choices `todo`, long if above 65535.
 fn length_production(
     rules: u16,
     owners: &[u16],
@@ -91,7 +92,7 @@ fn length_production(
     todo: &[u32; 16],
 ) -> u32
     requires { ⌜ ProductionMeasurable (flat rules (now owners) (now starts) (now symbols) (now costs)) (now next) (now cost) (now choice) (now lengths) (now counts) levels a e (now todo) ⌝ }
-    ensures { λ x. ⌜ x ≡ min (length (productionWords (flat rules (now (owners .entry)) (now (starts .entry)) (now (symbols .entry)) (now (costs .entry))) (now (cost .entry)) (now (counts .entry)) levels a e (now (todo .entry)))) 65536 ⌝ }
+    ensures { λ x. ⌜ x ≡ min (length (productionWords (flat rules (now (owners .entry)) (now (starts .entry)) (now (symbols .entry)) (now (costs .entry))) (now (cost .entry)) (now (counts .entry)) levels a e (now (todo .entry)))) lengthLong ⌝ }
 {
     let mut n: u32 = 0;
     let mut j: usize = 0;
@@ -129,7 +130,7 @@ fn length_production(
     n
 }
 
-// The token count of number k of rule r, 65536 if above 65535.
+// The token count of number k of rule r, long if above 65535.
 pub fn length_rule(
     rules: u16,
     owners: &[u16],
@@ -146,7 +147,7 @@ pub fn length_rule(
     k: u32,
 ) -> u32
     requires { ⌜ RuleMeasurable (flat rules (now owners) (now starts) (now symbols) (now costs)) (now next) (now cost) (now choice) (now lengths) (now counts) levels r k ⌝ }
-    ensures { λ x. ⌜ x ≡ min (length (ruleWords (flat rules (now (owners .entry)) (now (starts .entry)) (now (symbols .entry)) (now (costs .entry))) (now (cost .entry)) levels r k)) 65536 ⌝ }
+    ensures { λ x. ⌜ x ≡ min (length (ruleWords (flat rules (now (owners .entry)) (now (starts .entry)) (now (symbols .entry)) (now (costs .entry))) (now (cost .entry)) levels r k)) lengthLong ⌝ }
 {
     if k == 0 {
         return entry_at(lengths, r);

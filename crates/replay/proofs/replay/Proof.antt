@@ -1,5 +1,4 @@
 use lib.Seq.{length-take-le}
-use native.Mathlib.Omega.{arith}
 use borrow.Author.Needs.{needs}
 use Rattle.replay.proofs.replay.Statement.{statement}
 use Rattle.replay.proofs.replay.Tie as tie
@@ -40,23 +39,17 @@ array-borrow-prefix-reached c = search needs
 slice-aggregate-fill-and-say-4 : tie.Need-slice-aggregate-fill-and-say-4
 slice-aggregate-fill-and-say-4 c = search (needs, length-take-le)
 
-array-borrow-prefix-productive : tie.Need-array-borrow-prefix-productive
-array-borrow-prefix-productive c = search needs
+array-borrow-prefix-cost : tie.Need-array-borrow-prefix-cost
+array-borrow-prefix-cost c = search needs
 
 slice-aggregate-fill-and-say-5 : tie.Need-slice-aggregate-fill-and-say-5
 slice-aggregate-fill-and-say-5 c = search (needs, length-take-le)
 
-array-borrow-prefix-cost : tie.Need-array-borrow-prefix-cost
-array-borrow-prefix-cost c = search needs
-
-slice-aggregate-fill-and-say-6 : tie.Need-slice-aggregate-fill-and-say-6
-slice-aggregate-fill-and-say-6 c = search (needs, length-take-le)
-
 array-borrow-prefix-lengths : tie.Need-array-borrow-prefix-lengths
 array-borrow-prefix-lengths c = search needs
 
-slice-aggregate-fill-and-say-7 : tie.Need-slice-aggregate-fill-and-say-7
-slice-aggregate-fill-and-say-7 c = search (needs, length-take-le)
+slice-aggregate-fill-and-say-6 : tie.Need-slice-aggregate-fill-and-say-6
+slice-aggregate-fill-and-say-6 c = search (needs, length-take-le)
 
 fill-and-say-requires : tie.Need-fill-and-say-requires
 fill-and-say-requires c κs = search needs
@@ -80,11 +73,9 @@ replay-spec =
     slice-aggregate-fill-and-say-3
     array-borrow-prefix-reached
     slice-aggregate-fill-and-say-4
-    array-borrow-prefix-productive
-    slice-aggregate-fill-and-say-5
     array-borrow-prefix-cost
-    slice-aggregate-fill-and-say-6
+    slice-aggregate-fill-and-say-5
     array-borrow-prefix-lengths
-    slice-aggregate-fill-and-say-7
+    slice-aggregate-fill-and-say-6
     fill-and-say-requires
     returns)

@@ -2,15 +2,14 @@ use mathlib.Core.Path.{_≡_}
 use Prim.Native.Nat.{_≤_, _-_}
 use lib.ListN.{length}
 use borrow.Author.Needs.{needs}
-use native.Mathlib.Omega.{arith}
 use Rattle.replay.proofs.say_rules.Statement.{statement}
 use Rattle.replay.proofs.say_rules.Tie as tie
 
 abbrev Inv-loop : tie.InvT-loop
-Inv-loop rules owners starts symbols costs asked empty first follow productive₀ cost₀ lengths₀ out₀ rule₀ productive cost lengths out rule = (rule ≤ rules) × (length out ≡ 1024) × (length productive ≡ length productive₀) × (length cost ≡ length cost₀) × (length lengths ≡ length lengths₀)
+Inv-loop rules owners starts symbols costs asked empty first follow cost₀ lengths₀ out₀ rule₀ cost lengths out rule = (rule ≤ rules) × (length out ≡ 1024) × (length cost ≡ length cost₀) × (length lengths ≡ length lengths₀)
 
 abbrev μ-loop : tie.MeasureT-loop
-μ-loop rules owners starts symbols costs asked empty first follow productive₀ cost₀ lengths₀ out₀ rule₀ productive cost lengths out rule = rules - rule
+μ-loop rules owners starts symbols costs asked empty first follow cost₀ lengths₀ out₀ rule₀ cost lengths out rule = rules - rule
 
 loop-holds : tie.Need-loop-holds Inv-loop μ-loop
 loop-holds c = search needs
@@ -39,9 +38,6 @@ same-length c = search needs
 same-length-2 : tie.Need-same-length-2 Inv-loop μ-loop
 same-length-2 c = search needs
 
-same-length-3 : tie.Need-same-length-3 Inv-loop μ-loop
-same-length-3 c = search needs
-
 returns : tie.Need-returns Inv-loop μ-loop
 returns c = search needs
 
@@ -60,5 +56,4 @@ say-rules-spec =
     loop-again
     same-length
     same-length-2
-    same-length-3
     returns)

@@ -34,21 +34,15 @@ array-borrow-prefix-follow c = search needs
 slice-aggregate-tables-report-3 : tie.Need-slice-aggregate-tables-report-3
 slice-aggregate-tables-report-3 c = search (needs, length-take-le)
 
-array-borrow-prefix-productive : tie.Need-array-borrow-prefix-productive
-array-borrow-prefix-productive c = search needs
-
-slice-aggregate-tables-report-4 : tie.Need-slice-aggregate-tables-report-4
-slice-aggregate-tables-report-4 c = taken _ (replicate 16 0) (omega (arith, zeros 16))
-
 array-borrow-prefix-cost : tie.Need-array-borrow-prefix-cost
 array-borrow-prefix-cost c = search needs
 
-slice-aggregate-tables-report-5 : tie.Need-slice-aggregate-tables-report-5
-slice-aggregate-tables-report-5 c = taken _ (replicate 512 0) (omega (arith, zeros 512))
+slice-aggregate-tables-report-4 : tie.Need-slice-aggregate-tables-report-4
+slice-aggregate-tables-report-4 c = taken _ (replicate 512 0) (omega (arith, zeros 512))
 
 tables-report-requires : tie.Need-tables-report-requires
 tables-report-requires c κs =
-    let t = c .before .before .before .before .before .before in
+    let t = c .before .before .before .before .before in
     let w = t .before in
     let n = w .before in
     let s = n .before .before .before .before .before .before in
@@ -73,10 +67,8 @@ grammar-report-spec =
     slice-aggregate-tables-report-2
     array-borrow-prefix-follow
     slice-aggregate-tables-report-3
-    array-borrow-prefix-productive
-    slice-aggregate-tables-report-4
     array-borrow-prefix-cost
-    slice-aggregate-tables-report-5
+    slice-aggregate-tables-report-4
     tables-report-requires
     same-length
     returns)

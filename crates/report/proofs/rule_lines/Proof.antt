@@ -6,11 +6,11 @@ use Rattle.report.proofs.rule_lines.Statement.{statement}
 use Rattle.report.proofs.rule_lines.Tie as tie
 
 abbrev Inv-loop : tie.InvT-loop
-Inv-loop rules owners starts symbols costs empty first follow productive cost out₀ at next₀ r₀ out next r =
+Inv-loop rules owners starts symbols costs empty first follow cost out₀ at next₀ r₀ out next r =
     Lining (flat rules owners starts symbols costs) out₀ at out next r
 
 abbrev μ-loop : tie.MeasureT-loop
-μ-loop rules owners starts symbols costs empty first follow productive cost out₀ at next₀ r₀ out next r =
+μ-loop rules owners starts symbols costs empty first follow cost out₀ at next₀ r₀ out next r =
     rules - r
 
 loop-holds : tie.Need-loop-holds Inv-loop μ-loop
@@ -19,7 +19,7 @@ loop-holds c = search (needs, lining-start)
 rule-line-requires : tie.Need-rule-line-requires Inv-loop μ-loop
 rule-line-requires c κs =
     let l = c .before .before in
-    let s = l .before .before .before .before .before .before .before .before .before .before .before in
+    let s = l .before .before .before .before .before .before .before .before .before .before in
     (s .pre .0, (search needs, lining-room _ _ _ _ _ _ (l .loop .inv) (search needs) (s .pre .0 .well .sizes .rules-high) (s .pre .1)))
 
 add-r : tie.Need-add-r Inv-loop μ-loop

@@ -1,6 +1,5 @@
-use Rattle.grammar.proofs.Callers.{few-rules}
-use Rattle.tables.proofs.Calls.{refuses}
 use mathlib.Core.Path.{refl}
+use Rattle.tables.proofs.Calls.{refuses}
 use Rattle.sentences.proofs.Asking.{ask-7, ask-9, ask-work, ask-finished, ask-says}
 use borrow.Author.Needs.{needs}
 use Rattle.sentences.proofs.min_sentence.Statement.{statement}
@@ -24,9 +23,6 @@ returns c = search (needs, refuses)
 wide-requires : tie.Need-wide-requires
 wide-requires c κs = search needs
 
-row-wrong-requires : tie.Need-row-wrong-requires
-row-wrong-requires c κs = search (needs, few-rules)
-
 numbers-wrong-requires : tie.Need-numbers-wrong-requires
 numbers-wrong-requires c κs = search needs
 
@@ -39,17 +35,26 @@ same-length c = search needs
 same-length-2 : tie.Need-same-length-2
 same-length-2 c = search needs
 
-same-length-3 : tie.Need-same-length-3
-same-length-3 c = search needs
-
 returns-2 : tie.Need-returns-2
 returns-2 c = search (needs, ask-7)
 
 wide-requires-2 : tie.Need-wide-requires-2
 wide-requires-2 c κs = search needs
 
+same-length-3 : tie.Need-same-length-3
+same-length-3 c = search needs
+
 same-length-4 : tie.Need-same-length-4
 same-length-4 c = search needs
+
+returns-3 : tie.Need-returns-3
+returns-3 c = search (needs, ask-9)
+
+work-requires : tie.Need-work-requires
+work-requires c κs = let d = c .before .before .before in let v = d .before in let f = v .before in let nb = f .before in let na = nb .before .before in let w = na .before .before in let m = w .before in let k = m .before .before in ask-work _ _ _ _ (k .check .ensures) (m .enum-told .given .1) _ (w .wide .ensures .0) _ _ (na .numbers-wrong .ensures) (nb .numbers-wrong2 .ensures) (f .if1 .left) _ refl
+
+answer-requires : tie.Need-answer-requires
+answer-requires c κs = let o = c .before .before .before .before .before .before .before .before in let d = o .before .before .before .before in let v = d .before in let f = v .before in let nb = f .before in let na = nb .before .before in let w = na .before .before in let m = w .before in let k = m .before .before in ask-finished _ _ _ _ (k .check .ensures) (m .enum-told .given .1) _ (w .wide .ensures .0) _ _ (na .numbers-wrong .ensures) (nb .numbers-wrong2 .ensures) (f .if1 .left) _ _ (v .wide2 .ensures .0) (d .if2 .left) _ _ _ (o .work .ensures)
 
 same-length-5 : tie.Need-same-length-5
 same-length-5 c = search needs
@@ -57,29 +62,11 @@ same-length-5 c = search needs
 same-length-6 : tie.Need-same-length-6
 same-length-6 c = search needs
 
-returns-3 : tie.Need-returns-3
-returns-3 c = search (needs, ask-9)
-
-work-requires : tie.Need-work-requires
-work-requires c κs = let d = c .before .before .before .before in let v = d .before in let f = v .before in let nb = f .before in let na = nb .before .before in let ra = na .before .before in let w = ra .before .before in let m = w .before in let k = m .before .before in ask-work _ _ _ _ _ (k .check .ensures) (m .enum-told .given .1) _ (w .wide .ensures .0) _ _ _ (ra .row-wrong .ensures) (na .numbers-wrong .ensures) (nb .numbers-wrong2 .ensures) (f .if1 .left) _ refl
-
-answer-requires : tie.Need-answer-requires
-answer-requires c κs = let o = c .before .before .before .before .before .before .before .before .before .before .before in let d = o .before .before .before .before .before in let v = d .before in let f = v .before in let nb = f .before in let na = nb .before .before in let ra = na .before .before in let w = ra .before .before in let m = w .before in let k = m .before .before in ask-finished _ _ _ _ _ (k .check .ensures) (m .enum-told .given .1) _ (w .wide .ensures .0) _ _ _ (ra .row-wrong .ensures) (na .numbers-wrong .ensures) (nb .numbers-wrong2 .ensures) (f .if1 .left) _ _ (v .wide2 .ensures .0) (d .if2 .left) _ _ _ _ (o .work .ensures)
-
 same-length-7 : tie.Need-same-length-7
 same-length-7 c = search needs
 
-same-length-8 : tie.Need-same-length-8
-same-length-8 c = search needs
-
-same-length-9 : tie.Need-same-length-9
-same-length-9 c = search needs
-
-same-length-10 : tie.Need-same-length-10
-same-length-10 c = search needs
-
 returns-4 : tie.Need-returns-4
-returns-4 c = let a = c .before .before in let o = a .before .before .before .before .before .before .before .before .before .before .before .before in let d = o .before .before .before .before .before in let v = d .before in let f = v .before in let nb = f .before in let na = nb .before .before in let ra = na .before .before in let w = ra .before .before in let m = w .before in let k = m .before .before in ask-says _ _ _ _ _ (k .check .ensures) (m .enum-told .given .1) _ (w .wide .ensures .0) _ _ _ (ra .row-wrong .ensures) (na .numbers-wrong .ensures) (nb .numbers-wrong2 .ensures) (f .if1 .left) _ _ (v .wide2 .ensures .0) (d .if2 .left) _ _ _ _ (o .work .ensures) _ _ _ (a .answer .ensures)
+returns-4 c = let a = c .before .before in let o = a .before .before .before .before .before .before .before .before .before in let d = o .before .before .before .before in let v = d .before in let f = v .before in let nb = f .before in let na = nb .before .before in let w = na .before .before in let m = w .before in let k = m .before .before in ask-says _ _ _ _ (k .check .ensures) (m .enum-told .given .1) _ (w .wide .ensures .0) _ _ (na .numbers-wrong .ensures) (nb .numbers-wrong2 .ensures) (f .if1 .left) _ _ (v .wide2 .ensures .0) (d .if2 .left) _ _ _ (o .work .ensures) _ _ _ (a .answer .ensures)
 
 pub min-sentence-spec : {M : Type 1} → statement M
 min-sentence-spec =
@@ -91,22 +78,18 @@ min-sentence-spec =
     number-requires
     returns
     wide-requires
-    row-wrong-requires
     numbers-wrong-requires
     numbers-wrong-requires-2
     same-length
     same-length-2
-    same-length-3
     returns-2
     wide-requires-2
+    same-length-3
     same-length-4
-    same-length-5
-    same-length-6
     returns-3
     work-requires
     answer-requires
+    same-length-5
+    same-length-6
     same-length-7
-    same-length-8
-    same-length-9
-    same-length-10
     returns-4)

@@ -1,4 +1,5 @@
 // First choices: a rule's cost, and then its productions, going up, to the first that has it.
+use costs::COST_MAX;
 use costs::inner::entry_at;
 use costs::inner::sum;
 use grammar::inner::links;
@@ -23,7 +24,7 @@ pub fn cheapest_from(
     ensures { λ x. ⌜ CheapestFrom (flat rules (now (owners .entry)) (now (starts .entry)) (now (symbols .entry)) (now (costs .entry))) (now (cost .entry)) r p x ⌝ }
 {
     let least = entry_at(cost, r);
-    if 65535 < least {
+    if COST_MAX < least {
         return 4096;
     }
     let mut q = p;

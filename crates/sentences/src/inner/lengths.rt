@@ -1,18 +1,22 @@
 // Lengths: the token count of each rule's sentence, by rounds over the rules until one changes nothing.
+use crate::LENGTH_LONG;
+use crate::LENGTH_NONE;
+use costs::inner::add;
 use costs::inner::entry_at;
 use grammar::inner::start_at;
 use grammar::inner::wide;
 use tables::inner::turn_at;
 ghost use mathlib.Core.Path.{_≡_};
-ghost use Prim.Native.Nat.{_+_, _≤_, min};
 ghost use Rattle.grammar.specs.Flat.{flat, form};
 ghost use Rattle.tables.specs.Call.{Stepped};
-ghost use Rattle.sentences.specs.Measuring.{symbolLength, countOf, SymbolCounted, Countable, LengthReady, LengthBecame, LengthBegun, LengthRounds, LengthSettled, LengthFillable, LengthsBy};
+ghost use Rattle.costs.specs.Lent.{Part};
+ghost use Rattle.sentences.specs.Lent.{lengthsOf};
+ghost use Rattle.sentences.specs.Measuring.{countOf, SymbolCounted, Countable, LengthReady, LengthBecame, LengthBegun, LengthRounds, LengthSettled, LengthFillable, LengthsBy};
 
 // What symbol s adds: a token 1, a rule its entry.
 fn symbol_length(lengths: &[u32], s: u16) -> u32
     requires { ⌜ SymbolCounted (now lengths) s ⌝ }
-    ensures { λ r. ⌜ r ≡ symbolLength (now (lengths .entry)) s ⌝ }
+    ensures { λ r. ⌜ Part (λ t. 1) (lengthsOf (now (lengths .entry))) s r ⌝ }
 {
     if s < 32768 {
         return 1;
@@ -20,18 +24,7 @@ fn symbol_length(lengths: &[u32], s: u16) -> u32
     entry_at(lengths, wide(s - 32768))
 }
 
-// A sum of two lengths, 65536 if it is above 65535.
-pub fn add(n: u32, x: u32) -> u32
-    requires { ⌜ (n ≤ 65536) × (x ≤ 65536) ⌝ }
-    ensures { λ r. ⌜ r ≡ min (n + x) 65536 ⌝ }
-{
-    if n + x <= 65535 {
-        return n + x;
-    }
-    65536
-}
-
-// The token count of the symbols from a up to e: 65536 if above 65535, 65537 if some rule's is not known.
+// The token count of the symbols from a up to e, long if above 65535, none if some rule's is not known.
 fn count(symbols: &[u16], a: usize, e: usize, lengths: &[u32]) -> u32
     requires { ⌜ Countable (now symbols) a e (now lengths) ⌝ }
     ensures { λ r. ⌜ r ≡ countOf (now (lengths .entry)) (form (now (symbols .entry)) a e) ⌝ }
@@ -40,8 +33,8 @@ fn count(symbols: &[u16], a: usize, e: usize, lengths: &[u32]) -> u32
     let mut i = a;
     while i < e {
         let x = symbol_length(lengths, symbols[i]);
-        if 65536 < x {
-            return 65537;
+        if LENGTH_LONG < x {
+            return LENGTH_NONE;
         }
         n = add(n, x);
         i += 1;
@@ -74,7 +67,7 @@ fn length_step(
         lengths,
     );
     let old = entry_at(lengths, r);
-    if (n <= 65536) & (n != old) {
+    if (n <= LENGTH_LONG) & (n != old) {
         lengths[r] = n;
         return true;
     }
@@ -141,6 +134,6 @@ pub fn length_fill(
     requires { ⌜ LengthFillable (flat rules (now owners) (now starts) (now symbols) (now costs)) (now choice) (now lengths) ⌝ }
     ensures { λ _. ⌜ LengthsBy (flat rules (now (owners .entry)) (now (starts .entry)) (now (symbols .entry)) (now (costs .entry))) (now (choice .entry)) (now (lengths .exit)) ⌝ }
 {
-    rows::inner::clear(lengths, 65537);
+    rows::inner::clear(lengths, LENGTH_NONE);
     length_settle(rules, owners, starts, symbols, costs, choice, lengths);
 }

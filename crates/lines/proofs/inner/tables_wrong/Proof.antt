@@ -12,9 +12,6 @@ table-wrong-requires c κs = search needs
 table-wrong-requires-2 : tie.Need-table-wrong-requires-2
 table-wrong-requires-2 c κs = search needs
 
-row-wrong-requires-2 : tie.Need-row-wrong-requires-2
-row-wrong-requires-2 c κs = search needs
-
 numbers-wrong-requires : tie.Need-numbers-wrong-requires
 numbers-wrong-requires c κs = search needs
 
@@ -28,6 +25,5 @@ tables-wrong-spec =
     row-wrong-requires
     table-wrong-requires
     table-wrong-requires-2
-    row-wrong-requires-2
     numbers-wrong-requires
     returns)

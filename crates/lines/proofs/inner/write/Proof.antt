@@ -18,14 +18,11 @@ words-for-requires-2 c κs = search needs
 sets-requires : tie.Need-sets-requires
 sets-requires c κs = search (needs, write-first, write-follow, write-sets)
 
-is-set-requires-2 : tie.Need-is-set-requires-2
-is-set-requires-2 c κs = search needs
-
 entry-at-requires : tie.Need-entry-at-requires
 entry-at-requires c κs = search needs
 
 back-requires : tie.Need-back-requires
-back-requires c κs = let s = c .before .before .before .before .before in let f = s .before .before .before .before .before in write-back _ _ _ _ _ _ _ _ _ (f .before .before .before .before .before .before .before .before .before .before .pre) _ _ _ (f .front .ensures) _ _ _ _ (s .sets .ensures) _ _
+back-requires c κs = let s = c .before .before .before .before in let f = s .before .before .before .before .before in write-back _ _ _ _ _ _ _ _ (f .before .before .before .before .before .before .before .before .before .pre) _ _ _ (f .front .ensures) _ _ _ _ (s .sets .ensures) _
 
 same-length : tie.Need-same-length
 same-length c = search needs
@@ -42,7 +39,6 @@ write-spec =
     front-requires
     words-for-requires-2
     sets-requires
-    is-set-requires-2
     entry-at-requires
     back-requires
     same-length

@@ -1,4 +1,3 @@
-use Rattle.grammar.proofs.Callers.{few-rules}
 use Rattle.listings.proofs.Asking.{due-grammar, due-7, due-9, due-none}
 use borrow.Author.Needs.{needs}
 use Rattle.listings.proofs.inner.due.Statement.{statement}
@@ -19,9 +18,6 @@ returns c = search (needs, due-grammar)
 wide-requires : tie.Need-wide-requires
 wide-requires c κs = search needs
 
-words-for-requires : tie.Need-words-for-requires
-words-for-requires c κs = search (needs, few-rules)
-
 returns-2 : tie.Need-returns-2
 returns-2 c = search (needs, due-7)
 
@@ -40,7 +36,6 @@ due-spec =
     enum-told-2
     returns
     wide-requires
-    words-for-requires
     returns-2
     returns-3
     returns-4)

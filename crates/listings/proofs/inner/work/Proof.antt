@@ -4,16 +4,16 @@ use Rattle.listings.proofs.inner.work.Statement.{statement}
 use Rattle.listings.proofs.inner.work.Tie as tie
 
 work-requires : tie.Need-work-requires
-work-requires c κs = work-sentence _ _ _ _ _ _ _ (c .before .before .before .before .before .before .before .before .before .before .before .before .pre)
+work-requires c κs = work-sentence _ _ _ _ _ _ (c .before .before .before .before .before .before .before .before .before .before .pre)
 
 slice-aggregate-links : tie.Need-slice-aggregate-links
 slice-aggregate-links c = search needs
 
 links-requires : tie.Need-links-requires
-links-requires c κs = let w = c .before .before .before .before .before .before .before .before in work-links _ _ _ _ _ _ _ (w .before .before .before .before .before .before .before .before .before .before .before .before .before .pre)
+links-requires c κs = let w = c .before .before .before .before .before .before in work-links _ _ _ _ _ _ (w .before .before .before .before .before .before .before .before .before .before .before .pre)
 
 count-fill-requires : tie.Need-count-fill-requires
-count-fill-requires c κs = let l = c .before .before .before .before .before in let w = l .before .before .before .before .before .before .before .before .before in work-counts _ _ _ _ _ _ _ (w .before .before .before .before .before .before .before .before .before .before .before .before .before .pre) _ _ _ _ (w .work .ensures) _ _ (l .links .ensures)
+count-fill-requires c κs = let l = c .before .before .before .before .before in let w = l .before .before .before .before .before .before .before in work-counts _ _ _ _ _ _ (w .before .before .before .before .before .before .before .before .before .before .before .pre) _ _ _ (w .work .ensures) _ _ (l .links .ensures)
 
 same-length : tie.Need-same-length
 same-length c = search needs
@@ -24,11 +24,8 @@ same-length-2 c = search needs
 same-length-3 : tie.Need-same-length-3
 same-length-3 c = search needs
 
-same-length-4 : tie.Need-same-length-4
-same-length-4 c = search needs
-
 returns : tie.Need-returns
-returns c = let f = c .before .before in let l = f .before .before .before .before .before .before in let w = l .before .before .before .before .before .before .before .before .before in work-done _ _ _ _ _ _ _ (w .before .before .before .before .before .before .before .before .before .before .before .before .before .pre) _ _ _ _ (w .work .ensures) _ _ (l .links .ensures) _ (f .count-fill .ensures)
+returns c = let f = c .before .before in let l = f .before .before .before .before .before .before in let w = l .before .before .before .before .before .before .before in work-done _ _ _ _ _ _ (w .before .before .before .before .before .before .before .before .before .before .before .pre) _ _ _ (w .work .ensures) _ _ (l .links .ensures) _ (f .count-fill .ensures)
 
 pub work-spec : {M : Type 1} → statement M
 work-spec =
@@ -41,5 +38,4 @@ work-spec =
     same-length
     same-length-2
     same-length-3
-    same-length-4
     returns)

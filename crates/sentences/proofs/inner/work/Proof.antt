@@ -3,9 +3,6 @@ use borrow.Author.Needs.{needs}
 use Rattle.sentences.proofs.inner.work.Statement.{statement}
 use Rattle.sentences.proofs.inner.work.Tie as tie
 
-productive-fill-requires : tie.Need-productive-fill-requires
-productive-fill-requires c κs = search needs
-
 cost-fill-requires : tie.Need-cost-fill-requires
 cost-fill-requires c κs = search needs
 
@@ -13,7 +10,7 @@ choices-requires : tie.Need-choices-requires
 choices-requires c κs = search needs
 
 length-fill-requires : tie.Need-length-fill-requires
-length-fill-requires c κs = let h = c .before .before in let d = h .before .before .before .before .before in let f = d .before .before .before .before in work-lengths _ _ _ _ _ (f .before .before .before .before .before .before .before .before .before .pre) _ (d .cost-fill .ensures) _ (h .choices .ensures)
+length-fill-requires c κs = let h = c .before .before in let d = h .before .before .before .before .before in work-lengths _ _ _ _ (d .before .before .before .before .before .before .before .before .pre) _ (d .cost-fill .ensures) _ (h .choices .ensures)
 
 same-length : tie.Need-same-length
 same-length c = search needs
@@ -21,21 +18,16 @@ same-length c = search needs
 same-length-2 : tie.Need-same-length-2
 same-length-2 c = search needs
 
-same-length-3 : tie.Need-same-length-3
-same-length-3 c = search needs
-
 returns : tie.Need-returns
-returns c = let l = c .before .before in let h = l .before .before .before in let d = h .before .before .before .before .before in let f = d .before .before .before .before in work-done _ _ _ _ _ (f .before .before .before .before .before .before .before .before .before .pre) _ (d .cost-fill .ensures) _ (h .choices .ensures) _ _ (f .productive-fill .ensures) (l .length-fill .ensures)
+returns c = let l = c .before .before in let h = l .before .before .before in let d = h .before .before .before .before .before in work-done _ _ _ _ (d .before .before .before .before .before .before .before .before .pre) _ (d .cost-fill .ensures) _ (h .choices .ensures) _ (l .length-fill .ensures)
 
 pub work-spec : {M : Type 1} → statement M
 work-spec =
     tie.close
     (tie.spec
-    productive-fill-requires
     cost-fill-requires
     choices-requires
     length-fill-requires
     same-length
     same-length-2
-    same-length-3
     returns)

@@ -18,7 +18,7 @@ use Rattle.grammar.proofs.inner.start_at.Reads as start-at-reads
 use Rattle.grammar.proofs.inner.wide.Reads as wide-reads
 use Rattle.listings.proofs.inner.counts.times.Reads as times-reads
 use Rattle.sentences.proofs.inner.choices.cheapest_from.Reads as cheapest-from-reads
-use Rattle.sentences.proofs.inner.lengths.add.Reads as add-reads
+use Rattle.costs.proofs.inner.add.Reads as add-reads
 use Rattle.listings.proofs.inner.counts.+count_production+count_rule.{statement}
 use Rattle.listings.proofs.inner.counts.+count_production+count_rule.Tie.{close}
 

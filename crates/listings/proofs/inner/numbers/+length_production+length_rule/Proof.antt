@@ -17,7 +17,7 @@ use Rattle.costs.proofs.inner.entry_at.Reads as entry-at-reads
 use Rattle.grammar.proofs.inner.start_at.Reads as start-at-reads
 use Rattle.grammar.proofs.inner.wide.Reads as wide-reads
 use Rattle.listings.proofs.inner.numbers.find.Reads as find-reads
-use Rattle.sentences.proofs.inner.lengths.add.Reads as add-reads
+use Rattle.costs.proofs.inner.add.Reads as add-reads
 use Rattle.listings.proofs.inner.numbers.+length_production+length_rule.{statement}
 use Rattle.listings.proofs.inner.numbers.+length_production+length_rule.Tie.{close}
 

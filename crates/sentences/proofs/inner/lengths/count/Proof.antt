@@ -1,5 +1,5 @@
 use Prim.Native.Nat.{_-_}
-use Rattle.sentences.proofs.Counting.{Counted, counted-start, counted-end, counted-symbol, counted-unknown, counted-caps, counted-on}
+use Rattle.sentences.proofs.Counting.{Counted, counted-start, counted-end, counted-symbol, counted-unknown, counted-on}
 use borrow.Author.Needs.{needs}
 use Rattle.sentences.proofs.inner.lengths.count.Statement.{statement}
 use Rattle.sentences.proofs.inner.lengths.count.Tie as tie
@@ -26,7 +26,7 @@ returns : tie.Need-returns Inv-loop μ-loop
 returns c = search (needs, counted-unknown)
 
 add-requires : tie.Need-add-requires Inv-loop μ-loop
-add-requires c κs = search (needs, counted-caps)
+add-requires c κs = search needs
 
 add-i : tie.Need-add-i Inv-loop μ-loop
 add-i c = search needs

@@ -101,18 +101,19 @@ module _ (symbols costs : List ℕ) (a e : ℕ) (cost : List ℕ) (read : List B
             pub reading-on : to < top → SummedRead symbols costs a e cost read top (i + 1) to next
             reading-on l = record { cap = omega arith; upto = omega arith; adds = adds-then (m .adds) (c .adds); sums = after }
 
-          -- `sum_first`: a total that is cut is below `top`
-          pub first-on : 65536 < top → (to : ℕ) → to ≡ min (n + x) 65536 → SummedRead symbols costs a e cost read top (i + 1) to next
-          first-on f to q = reading-on to q (omega arith)
+        -- a part that is less than what is left of `top` is added
+        pub reading-below : x < top - n → (to : ℕ) → to ≡ n + x → SummedRead symbols costs a e cost read top (i + 1) to next
+        reading-below l to q = let k : x ≤ 65536 = omega (arith, ok .upto) in reading-on k to (omega (arith, ok .upto)) (omega arith)
 
-        -- `sum_below`: a part that is no less than what is left of `top` makes the sum come to it, an unknown one too
-        module _ (f : top ≤ 65536) where
-          pub below-over : top - n ≤ x → ReadsSum top costs cost (form symbols a e) read top next
-          below-over l = go (leb x 65536) refl
+        module _ (l : top - n ≤ x) where
+          -- any other makes the sum come to a `top` that is known, an unknown part too
+          pub reading-known : top ≤ 65536 → ReadsSum top costs cost (form symbols a e) read top next
+          reading-known f = go (leb x 65536) refl
             where
               go : (b : Bool) → leb x 65536 ≡ b → ReadsSum top costs cost (form symbols a e) read top next
               go true q = reading-over (leb-true x 65536 q) (min (n + x) 65536) refl (omega arith)
               go false q = reading-unknown (leb-false x 65536 q)
 
-          pub below-on : x < top - n → (to : ℕ) → to ≡ n + x → SummedRead symbols costs a e cost read top (i + 1) to next
-          below-on l to q = let k : x ≤ 65536 = omega arith in reading-on k to (omega arith) (omega arith)
+          -- and a known one, where `top` is unknown, makes it dear
+          pub reading-cut : 65536 < top → x ≤ 65536 → SummedRead symbols costs a e cost read top (i + 1) 65536 next
+          reading-cut f k = reading-on k 65536 (omega arith) (omega arith)

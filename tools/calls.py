@@ -1,4 +1,4 @@
-"""The 24 calls of bindings/include/boltmarrow.h once more, in plain Python, on arbitrary lists and numbers. They are
+"""The 25 calls of bindings/include/boltmarrow.h once more, in plain Python, on arbitrary lists and numbers. They are
 written from documents 01 and 02, over the definitions and visits of plain.py: here are the tables as words, their
 lengths and the calls' own refusals. A block file is written by bin/blocks. A call changes the lists that it is lent,
 and returns its values or raises plain.Refused.
@@ -13,8 +13,8 @@ LISTS = 4096, 4097, 16384, 512  # the lengths of the lists that the file reader 
 
 
 class Call(NamedTuple):
-    takes: str  # behind the grammar: numbers by what they count, k one of 32 bits; lists of words: marks, row, reached
-    # (a row), entries, counts (entries); room and bytes
+    takes: str  # behind the grammar: numbers by what they count, k and n of 32 bits; lists of words: marks, row,
+    # reached (a row), entries, counts (entries); room and bytes; job, the list of a record's four numbers
     refusals: tuple  # its own; besides, each gives 1 to 6
     values: int  # the values of an answer
     make: object
@@ -214,6 +214,51 @@ def follow_fill(g, mode, follow, first, empty, reached):
     return [0]
 
 
+def worked(g, job, n, visit):
+    """Makes n visits of the job, fewer only where it is or becomes done, each a function of the production's number;
+    the record says where the job stands then. Without a visit it stays as it is."""
+    kind, at, changed, done = job
+    made = 0
+    while made < n and not done:
+        changed = visit(at) or changed
+        made += 1
+        at += 1
+        if at == len(g.owners):  # the round is over: without change the job is done
+            at, changed, done = 0, False, not changed
+    if made:
+        job[:] = [kind, at, int(bool(changed)), int(bool(done))]
+    return [made]
+
+
+def job_slice(g, job, n, first, empty, follow, productive, cost, reached):
+    """Of the tables only those of the job's kind are looked at."""
+    plain.check(g)
+    kind, at, _, _ = job
+    if kind > 4 or at >= len(g.owners):
+        raise Refused(17)
+    if kind == 0:
+        need_first(g, first, empty)
+        held, vanish = rows(g, first), marks(empty, g.rules)
+        made = worked(g, job, n, lambda p: plain.visit_first(g, p, held, vanish))
+        put_rows(g, first, held)
+        put(empty, 0, vanish, g.rules)
+    elif kind < 3:  # 1 and 2: the modes
+        need_follow(g, follow, first, empty, reached)
+        held = rows(g, follow)
+        read = rows(g, first), marks(empty, g.rules), marks(reached, g.rules)
+        made = worked(g, job, n, lambda p: plain.visit_follow(g, kind, p, held, *read))
+        put_rows(g, follow, held)
+    elif kind == 3:
+        need(g, [(productive, row_length)])
+        held = marks(productive, g.rules)
+        made = worked(g, job, n, lambda p: plain.visit_productive(g, p, held))
+        put(productive, 0, held, g.rules)
+    else:
+        need(g, [(cost, cost_length)])
+        made = worked(g, job, n, lambda p: plain.visit_cost(g, p, cost))
+    return made
+
+
 def min_sentence(g, rule, cost, lengths, out):
     need(g, [(cost, cost_length), (lengths, cost_length)], rules=[rule])
     cost_fill(g, cost)
@@ -286,6 +331,7 @@ CALLS = {
     "follow_clear": Call("marks", (7,), 1, follow_clear),
     "follow_visit": Call("mode prod marks marks row reached", (7, 8, 11), 1, follow_visit),
     "follow_fill": Call("mode marks marks row reached", (7, 8), 1, follow_fill),
+    "slice": Call("job n marks row marks row entries reached", (7, 17), 1, job_slice),
     "min_sentence": Call("rule entries entries room", (7, 9, 12, 13, 14, 15), 1, min_sentence),
     "count_min_sentences": Call("rule entries entries counts", (7, 9, 12, 13, 14, 16), 1, count_min_sentences),
     "min_sentence_at": Call("rule k entries entries counts room", (7, 9, 12, 13, 14, 15, 16), 1, min_sentence_at),

@@ -6,9 +6,11 @@ A call's grammar is of a shape of tools/grammars.py, in one of four with further
 refusals made due, one or two, or a list cut, lengthened, emptied or with an entry replaced. Tables hold anything, spare
 bits and entries above 65537 included, and may be of a wrong length; a reached row may be the finished one too, or that
 with a mark changed or spare bits set; numbers may be out of range, room short; of the calls on all cheapest sentences
-many grammars have equal choices, circles or some 65535 rows, and k is around the count. A block file is of either
-version and has what a file can have wrong; one that is written must be bin/blocks' own. The answer and every element of
-every list must be equal. It prints how often each call gave each refusal, 0 for an answer; it exits with 1 if an answer
+many grammars have equal choices, circles or some 65535 rows, and k is around the count. A job's record is of any kind,
+anywhere in its round, yes said by any number, now and then done; its slice is of no visit up to all that are left, and
+tables of other kinds are of any length, 0 included. A block file is of either version and has what a file can have
+wrong; one that is written must be bin/blocks' own. The answer and every element of every list must be equal, those of
+a job's record too. It prints how often each call gave each refusal, 0 for an answer; it exits with 1 if an answer
 differs, or if of the usual number of calls none gave some refusal that the call can give.
 """
 import array
@@ -39,15 +41,17 @@ SENTENCES = ["min_sentence_cost", "min_sentence"]
 LISTS = ["count_min_sentences", "min_sentence_at"]
 VISITS = ["cost_visit", "follow_visit"]
 REACHED = ["follow_visit", "follow_fill", "reached_fill"]
+TABLES = {0: (0, 1), 1: (0, 1, 2, 5), 2: (0, 1, 2, 5), 3: (3,), 4: (4,)}  # of a slice, by the job's kind
 # The calls to draw from: more of those with many refusals or cases. File reads have the longest lists.
 DRAWN = [name for name in calls.CALLS if name != "read_blocks"] * 2 + SENTENCES * 6 + VISITS * 3 + ["read_blocks"] * 3
-DRAWN += ["write_blocks"] * 2 + ["follow_visit"] * 4 + LISTS * 4 + ["min_sentence_at"] * 4
+DRAWN += ["write_blocks"] * 2 + ["follow_visit"] * 4 + LISTS * 4 + ["min_sentence_at"] * 4 + ["slice"] * 8
 # The shapes that show most of a call: sentences that are refused, visits that read what they have written, rules that
-# are not reached, files of several blocks.
+# are not reached, jobs of several rounds, files of several blocks.
 TELLING = {name: ["no_sentence", "dear", "dear_flat", "unit_cycles"] for name in SENTENCES}
 TELLING |= {name: ["equal_choices"] * 5 + ["unit_cycles", "no_sentence", "dear_flat", "layered"] for name in LISTS}
 TELLING |= {name: ["own_rule", "empty_chains", "right_recursion"] for name in VISITS}
 TELLING |= {name: TELLING.get(name, []) + ["unreached", "unreached", "many_rules"] for name in REACHED}
+TELLING |= {"slice": ["own_rule", "empty_chains", "right_recursion", "unreached", "layered", "dear"]}
 TELLING |= {"write_blocks": ["wide_tokens", "wide_both", "many_rules", "dear_flat"]}
 
 
@@ -170,6 +174,34 @@ def any_bytes(draw, g):
     return list(draw.randbytes(length)) if draw.random() < 0.5 else [draw.choice((0, 1, 255))] * length
 
 
+def any_yes(draw, chance):
+    """A record's yes or no: yes with that chance, by 1 or by another number."""
+    return draw.choice((1, 1, 2, MOST)) if draw.random() < chance else 0
+
+
+def any_job(draw, g):
+    """A record: a kind that there is in nine of ten, at the round's beginning, its last production or elsewhere, and in
+    some done."""
+    kind = draw.randrange(5) if draw.random() < 0.9 else draw.choice((5, MOST, draw.randint(0, MOST)))
+    at = draw.choice((0, max(len(g.owners) - 1, 0))) if draw.random() < 0.4 else number_below(draw, len(g.owners))
+    return [kind, at, any_yes(draw, 0.4), any_yes(draw, 0.12)]
+
+
+def any_n(draw, g):
+    """The visits of a slice: none, few, about a round, three rounds, now and then all that there can be."""
+    count = len(g.owners)
+    if draw.random() < 0.1:
+        return WORD
+    return draw.choice((0, 1, draw.randint(2, 9), max(count - 1, 0), count, count + 1, 3 * count, 3 * count))
+
+
+def any_tables(draw, job, tables):
+    """The tables of a slice: those of the job's kind as they are, the others often of another length."""
+    due = TABLES.get(job[0], ())
+    return [table if k in due or draw.random() < 0.3 else table[: draw.choice((0, 0, 1))] + draw.choice(([], table))
+            for k, table in enumerate(tables)]
+
+
 # By the words of calls.Call.takes: of a random.Random, the grammar and the parameters so far.
 PARAMETERS = {
     "rule": lambda draw, g, _: number_below(draw, g.rules),
@@ -183,6 +215,8 @@ PARAMETERS = {
     "entries": lambda draw, g, _: any_entries(draw, calls.cost_length(g)),
     "counts": lambda draw, g, _: any_entries(draw, calls.cost_length(g)),
     "k": lambda draw, g, before: any_k(draw, g, before[0]),
+    "job": lambda draw, g, _: any_job(draw, g),
+    "n": lambda draw, g, _: any_n(draw, g),
     "room": lambda draw, g, before: any_room(draw, g, *(each for each in before if isinstance(each, int))),
     "bytes": lambda draw, g, _: any_bytes(draw, g),
 }
@@ -193,6 +227,8 @@ def parameters(draw, name, g):
     given = []
     for word in calls.CALLS[name].takes.split():
         given.append(PARAMETERS[word](draw, g, given))
+    if name == "slice":
+        given[2:] = any_tables(draw, given[0], given[2:])
     return given
 
 

@@ -83,6 +83,7 @@ class Case:
         self.grammar = plain.Grammar(int(rules), *map(numbers, lists))
         self.a, self.b, self.c, self.out, *d = map(numbers, lent.split(";"))
         self.has_d, self.d = bool(d), d[0] if d else []
+        self.job = [0] * 4
 
     def answers(self, name, given):
         """The line's answer, and what it leaves in the lent lists; None for a line without one."""
@@ -98,6 +99,13 @@ class Case:
         if name == "file":
             self.file = file_of(self.grammar, *given)
             return None
+        if name == "job":
+            self.job[:] = given
+            return None
+        if name == "slice":
+            return said(self.sliced(*given)) + ";" + shown(self.job)
+        if name == "slices":
+            return self.slices(*given)
         if name == "read_blocks":
             return self.read(given)
         if name == "write_blocks":
@@ -115,6 +123,28 @@ class Case:
         kinds["reached"] = iter([self.d])
         refusal, *values = calls.answer(name, [self.grammar, *(next(kinds.get(kind, given)) for kind in takes)])
         return [f"refused {refusal}"] if refusal else values
+
+    def sliced(self, n):
+        """One slice. The tables of the job's kind are lent, of the others none."""
+        by_name = {"first": [], "empty": [], "follow": [], "productive": [], "cost": [], "reached": []}
+        if self.job[0] == 0:
+            by_name |= {"first": self.a, "empty": self.b}
+        elif self.job[0] in (1, 2):
+            by_name |= {"follow": self.a, "first": self.b, "empty": self.c, "reached": self.d}
+        else:
+            by_name |= {"productive" if self.job[0] == 3 else "cost": self.a}
+        refusal, made = calls.answer("slice", [self.grammar, self.job, n, *by_name.values()])
+        return [f"refused {refusal}"] if refusal else [made]
+
+    def slices(self, n):
+        """Slices until the job says that it is done, one refuses, or one makes no visit."""
+        made = []
+        while True:
+            made += self.sliced(n)
+            if made[-1] == 0 or isinstance(made[-1], str) or self.job[3]:
+                break
+        found = made[-1:] if isinstance(made[-1], str) else [len(made), sum(made)]
+        return said(found) + ";" + shown(self.job)
 
     def read(self, lengths):
         lists = [[old] * length for old, length in zip(OLD, lengths, strict=True)]

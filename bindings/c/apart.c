@@ -11,6 +11,9 @@
 #ifndef PROD
 #define PROD boltmarrow_pidx
 #endif
+#ifndef NEXT
+#define NEXT boltmarrow_pidx
+#endif
 
 #define G rules, owners, owners_len, starts, starts_len, symbols, symbols_len, costs, costs_len
 
@@ -19,3 +22,5 @@ boltmarrow_answer asked(BOLTMARROW_GRAMMAR, const uint32_t *table, size_t len, R
 }
 
 boltmarrow_stretch told(BOLTMARROW_GRAMMAR, PROD prod) { return boltmarrow_production(G, prod); }
+
+void moved(boltmarrow_job *job, NEXT next) { job->next = next; }

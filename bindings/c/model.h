@@ -1,7 +1,7 @@
 /* Document 01 once more in C, with the file writer, the versions, the several exports, the reached rules, the lists of
- * cheapest sentences and the dear entries of document 02, plain and slow, to compare the library with. It is written from those texts,
- * with the readings of their open points in docs/DECISIONS.md, and from no crate. A call names an exported function and
- * holds what it is lent; `model` makes the call on those lists. */
+ * cheapest sentences, the dear entries and the slices of document 02, plain and slow, to compare the library with. It
+ * is written from those texts, with the readings of their open points in docs/DECISIONS.md, and from no crate. A call
+ * names an exported function and holds what it is lent; `model` makes the call on those lists. */
 #include <stddef.h>
 #include <stdint.h>
 #include <string.h>
@@ -37,6 +37,7 @@ typedef enum {
     FOLLOW_CLEAR,
     FOLLOW_VISIT,
     FOLLOW_FILL,
+    SLICE,
     MIN_SENTENCE,
     COUNT_MIN_SENTENCES,
     MIN_SENTENCE_AT,
@@ -44,10 +45,20 @@ typedef enum {
     OPS
 } op;
 
-/* The tables that a call is lent, in order: T a row of tokens a rule, E one row of rules, C a number a rule. */
-enum { TABLES = 4 };
-static const char *const tables_of[OPS] = {"",  "",  "T", "E",  "TE", "TE", "TE",   "",     "E",   "E",    "E",   "C",
-                                           "C", "C", "C", "E", "T",  "TTEE", "TTEE", "CC", "CCC", "CCC", ""};
+/* The tables that a call is lent, in order: T a row of tokens a rule, E one row of rules, C a number a rule. A slice is
+ * lent FIRST, EMPTY, FOLLOW, PRODUCTIVE, COST and the reached row. */
+enum { TABLES = 6 };
+static const char *const tables_of[OPS] = {"",  "",  "T", "E", "TE", "TE",   "TE",   "",       "E",  "E",   "E",   "C",
+                                           "C", "C", "C", "E", "T",  "TTEE", "TTEE", "TETECE", "CC", "CCC", "CCC", ""};
+
+/* What a job fills, and the tables of a slice that are of each kind, in the order of that kind's own calls. */
+enum { JOB_FIRST, JOB_FOLLOW_1, JOB_FOLLOW_2, JOB_PRODUCTIVE, JOB_COST, KINDS };
+static const char *const kind_tables[KINDS] = {"01", "2015", "2015", "3", "4"};
+
+/* A job: its kind, its next production, whether this round changed anything, whether it is done. */
+typedef struct {
+    uint16_t kind, next, changed, done;
+} record;
 
 typedef struct {
     op op;
@@ -60,6 +71,8 @@ typedef struct {
     size_t out_len;
     uint8_t *bytes;
     size_t bytes_len;
+    record job;
+    uint32_t n;
 } call;
 
 /* What any call answers: the refusal, then the other fields of its struct. */
@@ -496,6 +509,46 @@ static result write_model(call *c) {
     return answered((uint32_t)len);
 }
 
+/* One visit of a job, of its next production; whether it changed anything. */
+static int visit_of(const grammar *g, const record *job, uint32_t *const *t) {
+    switch (job->kind) {
+    case JOB_FIRST:
+        return visit_first(g, job->next, t[0], t[1]);
+    case JOB_FOLLOW_1:
+        return visit_follow(g, job->next, 1, t[2], t[0], t[1], t[5]);
+    case JOB_FOLLOW_2:
+        return visit_follow(g, job->next, 2, t[2], t[0], t[1], t[5]);
+    case JOB_PRODUCTIVE:
+        return visit_productive(g, job->next, t[3]);
+    default:
+        return visit_cost(g, job->next, t[4]);
+    }
+}
+
+/* Behind the last production a round ends: the job is done if it changed nothing, and the next one begins. A record
+ * that a visit leaves says 0 or 1; without a visit it is as found. */
+static result slice(call *c) {
+    record *job = &c->job;
+    uint32_t made = 0;
+    for (; made < c->n && !job->done; made++) {
+        int changed = visit_of(&c->g, job, c->table) || job->changed;
+        int last = job->next + 1u == c->g.prods;
+        job->next = last ? 0 : (uint16_t)(job->next + 1);
+        job->changed = !last && changed;
+        job->done = last && !changed;
+    }
+    return answered(made);
+}
+
+/* Whether table i of a call has to be of its exact length: of a slice those of the job's kind, of other calls all. */
+static int due(const call *c, size_t i) {
+    if (c->op != SLICE) return 1;
+    if (c->job.kind >= KINDS) return 0;
+    for (const char *of = kind_tables[c->job.kind]; *of; of++)
+        if (*of == (char)('0' + i)) return 1;
+    return 0;
+}
+
 /* The first refusal of a call that stands before its work, or 0. */
 static uint32_t refusal_of(const call *c) {
     const grammar *g = &c->g;
@@ -506,8 +559,9 @@ static uint32_t refusal_of(const call *c) {
                c->op == FOLLOW_VISIT;
     if (c->op == WRITE_BLOCKS && c->version != 1 && c->version != 2) return 26;
     if (number) return number;
+    if (c->op == SLICE && (c->job.kind >= KINDS || c->job.next >= g->prods)) return 17;
     for (size_t i = 0; i < strlen(tables_of[c->op]); i++)
-        if (c->table_len[i] != length_of(tables_of[c->op][i], g)) return 7;
+        if (due(c, i) && c->table_len[i] != length_of(tables_of[c->op][i], g)) return 7;
     if ((c->op == FOLLOW_VISIT || c->op == FOLLOW_FILL) && c->mode != 1 && c->mode != 2) return 8;
     if (rule && c->rule >= g->rules) return 9;
     if (c->op == HAS_PATH && c->to >= g->rules) return 9;
@@ -574,6 +628,8 @@ static result model(call *c) {
     case FOLLOW_FILL:
         fill_follow(g, c->mode, a, b, d, e);
         return r;
+    case SLICE:
+        return slice(c);
     case MIN_SENTENCE:
         return sentence(c);
     case COUNT_MIN_SENTENCES:

@@ -102,12 +102,13 @@ static void read_numbers(uint32_t highest) {
     while (*here == ' ') here++, read_run(highest);
 }
 
-/* Lent lists: a case's grammar, its tables and room, a file or room for one, and what a file is read into. D is of
- * length 0 in a case that has none. */
+/* Lent lists: a case's grammar, its tables and room, a file or room for one, what a file is read into, a job's record,
+ * and none, which is always of length 0. D is of length 0 in a case that has none. */
 enum {
-    OWNERS, STARTS, SYMBOLS, COSTS, A, B, C, OUT, D, BYTES, READ_OWNERS, READ_STARTS, READ_SYMBOLS, READ_COSTS, LISTS
+    OWNERS, STARTS, SYMBOLS, COSTS, A, B, C, OUT, D, BYTES, READ_OWNERS, READ_STARTS, READ_SYMBOLS, READ_COSTS,
+    JOB, NONE, LISTS
 };
-static const size_t size[LISTS] = {2, 2, 2, 1, 4, 4, 4, 2, 4, 1, 2, 2, 2, 1};
+static const size_t size[LISTS] = {2, 2, 2, 1, 4, 4, 4, 2, 4, 1, 2, 2, 2, 1, 2, 4};
 static uint8_t rooms[LISTS][GUARD + 4 * MOST + 2 * FENCE], guard[GUARD];
 static struct {
     uint8_t *fence, *at;
@@ -241,6 +242,59 @@ CALLS
 #undef ONE
 #undef WIDE
 #undef EACH
+
+/* A job's record: the numbers of boltmarrow_job. */
+enum { KIND, NEXT, CHANGED, DONE, RECORD };
+
+static void job(void) {
+    for (count = 0; count < RECORD; count++) numbers[count] = given[count];
+    lend(JOB);
+}
+
+static void say_job(void) {
+    printf(";");
+    say_list(JOB, RECORD);
+}
+
+/* By the kind of a job, the lists that are lent as FIRST, EMPTY, FOLLOW, PRODUCTIVE, COST and the reached row: its own
+ * tables, in the order of its visit; of the others none. A kind that there is not has those of the last. */
+enum { KINDS = 5, TABLES = 6 };
+static const int tables[KINDS][TABLES] = {
+    {A, B, NONE, NONE, NONE, NONE},
+    {B, C, A, NONE, NONE, D},
+    {B, C, A, NONE, NONE, D},
+    {NONE, NONE, NONE, A, NONE, NONE},
+    {NONE, NONE, NONE, NONE, A, NONE},
+};
+
+static boltmarrow_answer make_slice(void) {
+    uint32_t kind = item(JOB, KIND);
+    const int *t = tables[kind < KINDS ? kind : KINDS - 1];
+    return boltmarrow_slice((boltmarrow_job *)(void *)lent[JOB].at, G, K(0), T(t[0]), T(t[1]), T(t[2]), T(t[3]),
+                            T(t[4]), T(t[5]));
+}
+
+static void slice(void) {
+    SAY(make_slice());
+    end_run();
+    say_job();
+}
+
+/* Slices until the job says that it is done, one refuses, or one makes no visit: how many, and their visits. */
+static void slices(void) {
+    unsigned long long made = 0, visits = 0;
+    boltmarrow_answer a;
+    do {
+        a = make_slice();
+        made++;
+        visits += a.value;
+    } while (a.value > 0 && item(JOB, DONE) == 0);
+    if (a.refusal)
+        printf(" refused %u", a.refusal);
+    else
+        printf(" %llu %llu", made, visits);
+    say_job();
+}
 
 static void show(void) {
     for (int list = A; list < OUT; list++) {
@@ -437,6 +491,9 @@ static const struct step {
     CALLS
     {"read_blocks", 4, 4, 1, read_blocks, 0},
     {"write_blocks", 2, 2, 1, write_blocks, 0},
+    {"job", RECORD, RECORD, 0, job, 0},
+    {"slice", 1, 1, 1, slice, 1},
+    {"slices", 1, 1, 1, slices, 1},
     {"file", 1, MOST, 0, file, 0},
     {"show", 0, 0, 1, show, 0},
     {"at", 1, 1, 1, at, 0},
@@ -500,6 +557,7 @@ static void make_case(void) {
     if (*line == 0) fail("a title is due here", line);
     title = line;
     file_made = 0;
+    lend_same(JOB, RECORD, 0);
     need_line();
     rules = (uint16_t)read_number(UINT16_MAX);
     need(';');

@@ -74,8 +74,8 @@ static const char *const names[OPS] = {
     "check",        "production",       "mark",             "rule_mark",       "first_clear",
     "first_visit",  "first_fill",       "has_path",         "productive_clear", "productive_visit",
     "productive_fill", "cost_clear",    "cost_visit",       "cost_fill",       "min_sentence_cost",
-    "reached_fill", "follow_clear",     "follow_visit",     "follow_fill",     "min_sentence",
-    "count_min_sentences", "min_sentence_at", "write_blocks"};
+    "reached_fill", "follow_clear",     "follow_visit",     "follow_fill",     "slice",
+    "min_sentence", "count_min_sentences", "min_sentence_at", "write_blocks"};
 
 static result pack(boltmarrow_answer a) {
     result r = {a.refusal, {a.value}};
@@ -92,16 +92,24 @@ typedef struct {
     uint16_t *owners, *starts, *symbols, *out;
     uint8_t *costs, *bytes;
     uint32_t *table[TABLES];
+    boltmarrow_job *job;
 } copies;
+
+static boltmarrow_job job_of(record job) {
+    boltmarrow_job j = {job.kind, {job.next}, job.changed, job.done};
+    return j;
+}
 
 static copies lend_all(const call *c) {
     const grammar *g = &c->g;
     copies l = {0};
+    boltmarrow_job job = job_of(c->job);
     l.owners = lend(0, g->owners, g->prods, 2), l.starts = lend(1, g->starts, g->starts_len, 2);
     l.symbols = lend(2, g->symbols, g->symbols_len, 2), l.costs = lend(3, g->costs, g->tokens, 1);
     for (int i = 0; i < (int)strlen(tables_of[c->op]); i++) l.table[i] = lend(4 + i, c->table[i], c->table_len[i], 4);
     if (c->op == MIN_SENTENCE || c->op == MIN_SENTENCE_AT) l.out = lend(LENT, c->out, c->out_len, 2);
     if (c->op == WRITE_BLOCKS) l.bytes = lend(LENT, c->bytes, c->bytes_len, 1);
+    if (c->op == SLICE) l.job = lend(LENT, &job, sizeof job / 2, 2);
     return l;
 }
 
@@ -154,6 +162,8 @@ static result library(const call *c, copies l) {
         return pack(boltmarrow_follow_visit(G, c->mode, prod, T(0), T(1), T(2), T(3)));
     case FOLLOW_FILL:
         return pack(boltmarrow_follow_fill(G, c->mode, T(0), T(1), T(2), T(3)));
+    case SLICE:
+        return pack(boltmarrow_slice(l.job, G, c->n, T(0), T(1), T(2), T(3), T(4), T(5)));
     case MIN_SENTENCE:
         return pack(boltmarrow_min_sentence(G, rule, T(0), T(1), l.out, c->out_len));
     case COUNT_MIN_SENTENCES:
@@ -191,6 +201,10 @@ WIDE(boltmarrow_answer, count_min_sentences, uint64_t, LIST(uint32_t), LIST(uint
 WIDE(boltmarrow_answer, min_sentence_at, uint64_t, uint64_t, LIST(uint32_t), LIST(uint32_t), LIST(uint32_t),
      LIST(uint16_t));
 WIDE(boltmarrow_answer, write_blocks, uint64_t, LIST(uint8_t));
+boltmarrow_answer wide_slice(boltmarrow_job *, uint64_t, LIST(const uint16_t), LIST(const uint16_t),
+                             LIST(const uint16_t), LIST(const uint8_t), uint64_t, LIST(uint32_t), LIST(uint32_t),
+                             LIST(uint32_t), LIST(uint32_t), LIST(uint32_t),
+                             LIST(const uint32_t)) __asm__("boltmarrow_slice");
 
 static uint64_t slot(uint16_t number) { return (uint64_t)next() << 32 | (uint64_t)(1 + below(65535)) << 16 | number; }
 
@@ -221,6 +235,8 @@ static result wide(const call *c, copies l) {
         return pack(wide_follow_visit(rules, LISTS, mode, prod, T(0), T(1), T(2), T(3)));
     case FOLLOW_FILL:
         return pack(wide_follow_fill(rules, LISTS, mode, T(0), T(1), T(2), T(3)));
+    case SLICE:
+        return pack(wide_slice(l.job, rules, LISTS, slot_32(c->n), T(0), T(1), T(2), T(3), T(4), T(5)));
     case MIN_SENTENCE:
         return pack(wide_min_sentence(rules, LISTS, rule, T(0), T(1), l.out, c->out_len));
     case COUNT_MIN_SENTENCES:
@@ -244,6 +260,7 @@ static result run(call *c) {
     const char *what = names[c->op];
     copies l = lend_all(c);
     result got = below(4) ? library(c, l) : wide(c, l), want = model(c);
+    boltmarrow_job job = job_of(c->job);
     calls++;
     expect(what, got.refusal, want.refusal);
     for (int i = 0; i < 5; i++) expect(what, got.field[i], want.field[i]);
@@ -254,6 +271,7 @@ static result run(call *c) {
     for (int i = 0; i < (int)strlen(tables_of[c->op]); i++) returned(what, 4 + i, c->table[i]);
     if (c->op == MIN_SENTENCE || c->op == MIN_SENTENCE_AT) returned(what, LENT, c->out);
     if (c->op == WRITE_BLOCKS) returned(what, LENT, c->bytes);
+    if (c->op == SLICE) returned(what, LENT, &job);
     return got;
 }
 
@@ -308,11 +326,13 @@ static uint32_t word(void) {
 /* The largest file, and some bytes more. */
 enum { ROOM = 98 * BLOCK + 100 };
 
-/* A call on the grammar at hand, its tables of the right lengths and full of random words, version 1, and room for any
- * file. */
+/* A call on the grammar at hand, its tables of the right lengths and full of random words, version 1, room for any
+ * file, and a slice of a new job of any kind. */
 static call make(op which) {
-    call c = {which, g, 0, 0, 0, 1, 0, 1, 0, {words[0], words[1], words[2], words[3]}, {0}, output, 100, bytes, ROOM};
+    call c = {.op = which, .g = g, .mode = 1, .version = 1, .out = output, .out_len = 100, .bytes = bytes};
+    c.bytes_len = ROOM, c.job.kind = (uint16_t)below(KINDS), c.n = below(20);
     for (size_t i = 0; i < strlen(tables_of[which]); i++) {
+        c.table[i] = words[i];
         c.table_len[i] = length_of(tables_of[which][i], &g);
         for (size_t j = 0; j < c.table_len[i]; j++) words[i][j] = word();
     }
@@ -331,7 +351,8 @@ static result fill(op which, uint16_t mode) {
 static uint32_t row(uint16_t rule) {
     uint32_t bits = 0;
     for (uint16_t t = 0; t < g.tokens; t++) {
-        call c = {MARK, g, rule, t, 0, 0, 0, 0, 0, {words[0]}, {length_of('T', &g)}, NULL, 0, NULL, 0};
+        call c = {.op = MARK, .g = g, .rule = rule, .token = t, .table = {words[0]}};
+        c.table_len[0] = length_of('T', &g);
         bits |= run(&c).field[0] << t;
     }
     return bits;
@@ -340,7 +361,8 @@ static uint32_t row(uint16_t rule) {
 static uint32_t rule_row(int table) {
     uint32_t bits = 0;
     for (uint16_t r = 0; r < g.rules; r++) {
-        call c = {RULE_MARK, g, r, 0, 0, 0, 0, 0, 0, {words[table]}, {length_of('E', &g)}, NULL, 0, NULL, 0};
+        call c = {.op = RULE_MARK, .g = g, .rule = r, .table = {words[table]}};
+        c.table_len[0] = length_of('E', &g);
         bits |= run(&c).field[0] << r;
     }
     return bits;
@@ -423,6 +445,127 @@ static void path_is(uint16_t from, uint16_t to, uint32_t yes) {
     expect("path", run(&c).field[0], yes);
 }
 
+/* A clear or a fill of a kind, on those of a slice's tables that are its. */
+static void own(op which, uint16_t kind, uint32_t *const *tables) {
+    call c = {.op = which, .g = g, .mode = kind};
+    for (size_t i = 0; i < strlen(tables_of[which]); i++) {
+        c.table[i] = tables[kind_tables[kind][i] - '0'];
+        c.table_len[i] = length_of(tables_of[which][i], &g);
+    }
+    expect("clear or fill of a kind", run(&c).refusal, 0);
+}
+
+static const op clear_of[KINDS] = {FIRST_CLEAR, FOLLOW_CLEAR, FOLLOW_CLEAR, PRODUCTIVE_CLEAR, COST_CLEAR};
+static const op fill_of[KINDS] = {FIRST_FILL, FOLLOW_FILL, FOLLOW_FILL, PRODUCTIVE_FILL, COST_FILL};
+
+/* The tables of a kind as its fill leaves them. */
+static uint32_t full[TABLES][512 * 16];
+static uint32_t *const full_tables[TABLES] = {full[0], full[1], full[2], full[3], full[4], full[5]};
+
+/* A slice of a job on tables of random words; those of other kinds have any length. */
+static call make_slice(record job, uint32_t n) {
+    call c = make(SLICE);
+    c.job = job, c.n = n;
+    for (size_t i = 0; i < TABLES; i++)
+        if (!due(&c, i) && below(4)) c.table_len[i] = below(2) ? below(2 * (uint32_t)c.table_len[i] + 2) : 0;
+    return c;
+}
+
+/* A new job of a kind on cleared tables; what FOLLOW reads is finished. */
+static call new_job(uint16_t kind, uint32_t n) {
+    call c = make_slice((record){kind, 0, 0, 0}, n);
+    own(fill_of[kind], kind, full_tables);
+    for (size_t i = 0; i < TABLES; i++)
+        if (due(&c, i)) memcpy(words[i], full[i], 4 * c.table_len[i]);
+    own(clear_of[kind], kind, c.table);
+    return c;
+}
+
+/* Whether the tables of the job's kind are the fill's, word for word. */
+static int is_full(const call *c) {
+    for (size_t i = 0; i < TABLES; i++)
+        if (due(c, i) && memcmp(c->table[i], full[i], 4 * c->table_len[i])) return 0;
+    return 1;
+}
+
+/* Whether they hold no mark that the fill's do not, and no cost below the fill's. */
+static int is_true(const call *c) {
+    for (size_t i = 0; i < TABLES; i++)
+        for (size_t j = 0; due(c, i) && j < c->table_len[i]; j++) {
+            uint32_t held = c->table[i][j], all = full[i][j];
+            if (tables_of[SLICE][i] == 'C' ? held < all : held & ~all) return 0;
+        }
+    return 1;
+}
+
+/* A slice that makes no visit and leaves the record as found, of any n. */
+static void idle(call *c, uint32_t n) {
+    record before = c->job;
+    c->n = n;
+    result r = run(c);
+    expect("an idle slice", r.refusal, 0);
+    expect("its visits", r.field[0], 0);
+    expect("its record", memcmp(&c->job, &before, sizeof before), 0);
+}
+
+/* The rounds within which a job from cleared tables is done, one more than demand 3's number: rules times tokens, and
+ * for PRODUCTIVE and COST the rules. */
+static uint64_t rounds_of(uint16_t kind) {
+    return 1 + (kind < JOB_PRODUCTIVE ? (uint64_t)g.rules * g.tokens : g.rules);
+}
+
+/* A job from cleared tables by slices of n until it is done; how many visits it made. */
+static uint64_t drive(uint16_t kind, uint32_t n) {
+    call c = new_job(kind, n);
+    uint64_t visits = 0, most = rounds_of(kind) * g.prods;
+    while (!c.job.done && visits < most) {
+        idle(&c, 0), c.n = n;
+        result r = run(&c);
+        expect("a slice", r.refusal, 0);
+        expect("its visits", c.job.done ? r.field[0] <= n : r.field[0] == n, 1);
+        expect("marks and costs under way", (uint64_t)is_true(&c), 1);
+        visits += r.field[0];
+        if (r.field[0] == 0) break;
+    }
+    expect("a job's rounds", visits <= most, 1);
+    expect("a done job's tables", (uint64_t)is_full(&c), 1);
+    expect("a done job's record", c.job.done == 1 && c.job.next == 0 && c.job.changed == 0, 1);
+    idle(&c, 0), idle(&c, 1), idle(&c, n), idle(&c, UINT32_MAX);
+    return visits;
+}
+
+/* Records that no slice left, on any tables. */
+static void odd_jobs(uint16_t kind, int count) {
+    static const uint16_t yes[] = {0, 1, 2, 65535};
+    for (int i = 0; i < count; i++) {
+        record job = {kind, (uint16_t)below((uint32_t)g.prods), yes[below(4)], yes[below(4)]};
+        uint32_t some[] = {0, 1, 2, (uint32_t)g.prods - job.next, below(3 * (uint32_t)g.prods), UINT32_MAX};
+        call c = make_slice(job, some[below(6)]);
+        int none = job.done || c.n == 0;
+        result r = run(&c);
+        expect("a slice of any record", r.refusal, 0);
+        expect("no visit", r.field[0] == 0, (uint64_t)none);
+        if (job.done) expect("a record that is done", memcmp(&c.job, &job, sizeof job), 0);
+        /* on from there, also where the record now says that it is done */
+        c.n = below(2 * (uint32_t)g.prods), run(&c);
+        c.job.done = 0, run(&c);
+    }
+}
+
+/* Every kind of job on the grammar at hand. However it is sliced, a job makes the same visits, whole rounds of them. In
+ * a large grammar slices of 7 and 1 would be too many. */
+static void jobs(void) {
+    uint32_t prods = (uint32_t)g.prods;
+    int small = prods < 200;
+    uint32_t some[] = {prods, prods + 1, small ? 7 : prods * 2 / 3, small ? 1 : prods * 2 - 1};
+    for (uint16_t kind = 0; kind < KINDS; kind++) {
+        uint64_t visits = drive(kind, UINT32_MAX);
+        expect("whole rounds", visits % prods, 0);
+        for (int i = 0; i < 4; i++) expect("visits of a job", drive(kind, some[i]), visits);
+        odd_jobs(kind, 8);
+    }
+}
+
 static void begin_g1(void) {
     begin(4, 4, 1);
     PROD(1, R(2), 0, R(3));
@@ -437,6 +580,7 @@ static void g1(void) {
     static const uint32_t follow[] = {8, 8, 1, 8}, first[] = {5, 5, 4, 2}, cost[] = {1, 1, 0, 0};
     static const uint16_t order[] = {5, 0, 1, 2, 3, 4};
     begin_g1();
+    jobs();
     call c = make(CHECK);
     expect("G1 check", run(&c).refusal, 0);
     for (uint16_t r = 0; r < 4; r++) {
@@ -459,7 +603,7 @@ static void g1(void) {
     fill(FIRST_CLEAR, 0);
     for (int round = 0; round < 2; round++) {
         for (int i = 0; i < 6; i++) {
-            call v = {FIRST_VISIT, g, 0, 0, order[i], 0, 0, 0, 0, {words[0], words[1]}, {4, 1}, NULL, 0, NULL, 0};
+            call v = {.op = FIRST_VISIT, .g = g, .prod = order[i], .table = {words[0], words[1]}, .table_len = {4, 1}};
             run(&v);
         }
         expect("G1 rounds", row(1), round ? 5 : 0);
@@ -475,6 +619,7 @@ static void g2_to_g6(void) {
     prod(3, NULL, 0);
     follow_is(1, 2, 2);
     follow_is(2, 2, 6);
+    jobs();
 
     begin(2, 2, 1);
     PROD(0, R(1));
@@ -486,6 +631,7 @@ static void g2_to_g6(void) {
     path_is(1, 1, 1);
     path_is(0, 0, 0);
     path_is(0, 1, 1);
+    jobs();
 
     begin(2, 2, 1);
     PROD(0, R(1));
@@ -493,6 +639,7 @@ static void g2_to_g6(void) {
     first_is(1, 0);
     cost_is(1, 12, 0);
     sentence_is(1, 100, 12, 0);
+    jobs();
 
     for (int which = 0; which < 3; which++) {
         begin(2, 3, 255);
@@ -504,6 +651,7 @@ static void g2_to_g6(void) {
         cost_is(1, which == 1 ? 13 : 0, which == 0 ? 65535 : which == 1 ? 0 : 1);
         sentence_is(1, 300, which == 1 ? 13 : 0, which == 0 ? 257 : which == 1 ? 0 : 1);
         sentence_is(1, 256, which == 0 ? 15 : which == 1 ? 13 : 0, which == 2);
+        jobs();
     }
 
     begin(2, 3, 1);
@@ -513,6 +661,7 @@ static void g2_to_g6(void) {
     cost_is(1, 0, 1);
     sentence_is(1, 100, 0, 1);
     expect("G6 sentence", output[0], 1);
+    jobs();
 }
 
 /* A visit of COST on the grammar at hand, from these entries of its rules: whether it changed something, and the owner's
@@ -535,6 +684,7 @@ static void dear_and_unknown(void) {
     add(R(3)), end(1);
     for (int i = 0; i < 257; i++) add(0);
     end(1), PROD(2, 0), PROD(3, 0);
+    jobs();
     for (int i = 0; i < 5; i++) {
         uint32_t u = unknowns[i];
         for (uint16_t p = 1; p < 4; p++) {
@@ -573,6 +723,7 @@ static void exports(void) {
     static const uint32_t first[] = {3, 1, 2, 4, 8}, cost[] = {3, 5, 3, 1, 0}, length[] = {2, 3, 2, 1, 0};
     static const uint32_t follow[2][5] = {{32, 32, 32, 40, 16}, {32, 32, 32, 56, 16}};
     begin_exports();
+    jobs();
     call c = make(CHECK);
     expect("exports: check", run(&c).refusal, 0);
     for (uint16_t r = 0; r < 5; r++) {
@@ -596,6 +747,7 @@ static void exports(void) {
     c = make(CHECK);
     expect("the same export twice", run(&c).refusal, 0);
     cost_is(0, 0, 5);
+    jobs();
     /* all productions but one are rule 0's */
     begin(2, 2, 1);
     for (int p = 0; p < 4095; p++) PROD(0, R(1));
@@ -603,6 +755,7 @@ static void exports(void) {
     first_is(0, 1);
     follow_is(2, 1, 2);
     sentence_is(0, 1, 0, 1);
+    jobs();
 }
 
 /* Document 02's dead rule: start: S; S: A; A: a; U: A z. Rules 1 S, 2 A, 3 U; tokens 0 a, 1 z, 2 eof. */
@@ -630,6 +783,7 @@ static void dead_visit(uint16_t mode, uint16_t prod, uint32_t reached, uint32_t 
 static void dead(void) {
     static const uint32_t follow[2][4] = {{4, 4, 6, 0}, {4, 4, 4, 0}};
     begin_dead();
+    jobs();
     reached_is(7);
     for (uint16_t r = 0; r < 4; r++) {
         follow_is(1, r, follow[0][r]);
@@ -657,11 +811,13 @@ static void dead(void) {
     reached_is(15);
     follow_is(2, 2, 6);
     follow_is(2, 3, 4);
+    jobs();
     /* a ring of dead rules that holds a reached one: start: A; A: a; B: C A; C: B */
     begin(4, 2, 1), PROD(0, R(1)), PROD(1, 0), PROD(2, R(3), R(1)), PROD(3, R(2));
     reached_is(3);
     follow_is(2, 1, 2);
     follow_is(2, 2, 0);
+    jobs();
 }
 
 /* Doubling rules: lengths 65535 and 65536, and sixty that come to nothing. */
@@ -677,12 +833,14 @@ static void lengths(void) {
     sentence_is(18, 100000, 0, 65535);
     sentence_is(1, 100000, 15, 0);
     expect("length", words[1][1], BOLTMARROW_LENGTH_LONG);
+    jobs();
 
     begin(61, 1, 0);
     PROD(0, R(1));
     for (uint16_t r = 1; r < 60; r++) PROD(r, R(r + 1), R(r + 1));
     prod(60, NULL, 0);
     sentence_is(0, 0, 0, 0);
+    jobs();
     for (uint16_t rules = 512; rules < 514; rules++) {
         begin(rules, 512, 1);
         for (uint16_t r = 0; r + 1 < rules; r++) PROD(r, R(r + 1));
@@ -691,6 +849,7 @@ static void lengths(void) {
             call c = make((op)o);
             expect("R", run(&c).refusal, rules == 513);
         }
+        if (rules == 512) jobs();
     }
 }
 
@@ -784,6 +943,55 @@ static void all_refuse(uint32_t number) {
         expect("refusal of a grammar", run(&c).refusal, number);
         expect("value beside it", run(&c).field[0], 0);
     }
+    call c = make_slice((record){65535, 65535, 1, 65535}, below(2));
+    memset(c.table_len, 0, sizeof c.table_len);
+    expect("refusal of a grammar before 17 and 7", run(&c).refusal, number);
+}
+
+/* The slice is refused so: with this record and with each done one, of each n. */
+static void slice_refused(call *c, uint32_t refusal) {
+    static const uint16_t done[] = {0, 1, 2, 65535};
+    static const uint32_t visits[] = {0, 1, 6, UINT32_MAX};
+    for (int i = 0; i < 16; i++) {
+        c->job.done = done[i / 4], c->n = visits[i % 4];
+        result r = run(c);
+        expect("refusal of a slice", r.refusal, refusal);
+        expect("value beside it", r.field[0], 0);
+    }
+}
+
+/* 17 for each kind and next production that is none, on tables that are right and on such as would be 7. */
+static void bad_records(void) {
+    begin_g1();
+    for (uint16_t kind = 0; kind < KINDS; kind++)
+        for (int how = 0; how < 2; how++) {
+            call c = make_slice((record){kind, how ? 65535 : 6, (uint16_t)below(3), 0}, 0);
+            slice_refused(&c, 17);
+            memset(c.table_len, 0, sizeof c.table_len), slice_refused(&c, 17);
+        }
+    static const uint16_t kinds[] = {5, 6, 256, 32768, 65535}, nexts[] = {0, 5, 6, 65535};
+    for (int i = 0; i < 20; i++) {
+        call c = make(SLICE);
+        c.job = (record){kinds[i / 4], nexts[i % 4], 1, 0};
+        slice_refused(&c, 17);
+        memset(c.table_len, 0, sizeof c.table_len), slice_refused(&c, 17);
+    }
+}
+
+/* 7 for each table of the kind; a table of another kind may be so long. */
+static void tables_of_kinds(void) {
+    begin_g1();
+    for (uint16_t kind = 0; kind < KINDS; kind++)
+        for (size_t i = 0; i < TABLES; i++)
+            for (int how = 0; how < 4; how++) {
+                call c = make_slice((record){kind, (uint16_t)below(6), (uint16_t)below(3), 0}, 20);
+                size_t right = length_of(tables_of[SLICE][i], &g), bad[] = {0, right - 1, right + 1, right + 65536};
+                c.table_len[i] = bad[how];
+                if (due(&c, i))
+                    slice_refused(&c, 7);
+                else
+                    expect("a table of another kind", run(&c).refusal, 0);
+            }
 }
 
 static void bad_grammars(void) {
@@ -834,7 +1042,7 @@ static void list_lengths(void) {
                 call c = make((op)o);
                 size_t right = c.table_len[i], bad[] = {0, right - 1, right + 1, right + 65536, WORDS};
                 c.table_len[i] = bad[how];
-                expect("length of a table", run(&c).refusal, 7);
+                expect("length of a table", run(&c).refusal, due(&c, i) ? 7 : 0);
             }
     }
     begin_g1();
@@ -1167,6 +1375,15 @@ static size_t any_room(void) {
     return below(3) && len < ROOM ? len - 1 + below(3) : below(below(2) ? 2000 : ROOM);
 }
 
+/* Any record: most are good. */
+static record any_record(void) {
+    record job = {(uint16_t)below(KINDS), (uint16_t)below((uint32_t)g.prods + 1), (uint16_t)below(3), 0};
+    if (below(8) == 0) job.kind = (uint16_t)(below(2) ? KINDS : next());
+    if (below(16) == 0) job.next = (uint16_t)next();
+    if (below(8) == 0) job.done = (uint16_t)below(3), job.changed = (uint16_t)next();
+    return job;
+}
+
 /* Random calls: tables of random words, then calls of one kind upon what earlier ones left. */
 static void random_calls(int grammars) {
     for (int n = 0; n < grammars; n++) {
@@ -1182,6 +1399,8 @@ static void random_calls(int grammars) {
             c.mode = (uint16_t)(below(8) ? 1 + below(2) : below(4)), c.out_len = below(below(8) ? 60 : 100000);
             c.bytes_len = any_room(), c.version = (uint16_t)(below(8) ? 1 + below(2) : below(4));
             c.k = below(4) ? below(below(2) ? 4 : 40) : below(2) ? 65530 + below(12) : next();
+            c.n = below(8) ? below(below(2) ? 4 : 200) : UINT32_MAX;
+            if (below(3) == 0) c.job = any_record();
             size_t *len = &c.table_len[below(TABLES)], right = *len;
             if (below(12) == 0) *len = right + below(3) - (right > 0);
             run(&c);
@@ -1198,6 +1417,16 @@ static void random_calls(int grammars) {
     }
 }
 
+/* Jobs on random grammars, and on one at the limits. */
+static void random_jobs(int grammars) {
+    for (int n = 0; n < grammars; n++) {
+        random_grammar();
+        if (check_of(&g) == 0) jobs();
+    }
+    limits();
+    jobs();
+}
+
 int main(void) {
     expect("fences", (uint64_t)build_fences(), 1);
     g1();
@@ -1211,11 +1440,14 @@ int main(void) {
     bad_grammars();
     list_lengths();
     numbers();
+    bad_records();
+    tables_of_kinds();
     reader();
     reader_versions();
     writer();
     writer_versions();
     random_calls(4000);
+    random_jobs(100);
     printf("test: %lu calls, %lu checks, %lu wrong\n", calls, checks, wrong);
     return wrong != 0;
 }

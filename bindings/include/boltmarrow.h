@@ -12,9 +12,9 @@
  *
  * Numbers. A rule's, a token's and a production's number are types of their own, so that none can
  * be passed for another: boltmarrow_has_path(.., (boltmarrow_ridx){1}, (boltmarrow_ridx){2}). All
- * numbers have 16 bits, but for `k`, the number of a sentence in a list, which has 32. A wider one
- * that is put into such a type, or handed over as `rules`, `mode` or `version`, is cut to 16 bits
- * before the call sees it: 65537 asks about rule 1. Check it before.
+ * numbers have 16 bits, but for `k`, the number of a sentence in a list, and `n`, the visits of a
+ * slice, which have 32. A wider one that is put into such a type, or handed over as `rules`, `mode`
+ * or `version`, is cut to 16 bits before the call sees it: 65537 asks about rule 1. Check it before.
  *
  * Tables. A mark table (FIRST, FOLLOW) has R rows of (T+31)/32 words: token t of rule r is bit t%32
  * of word r*((T+31)/32) + t/32. EMPTY, PRODUCTIVE and the reached row are one row of (R+31)/32
@@ -35,8 +35,8 @@
  * Stack. boltmarrow_min_sentence takes up to 110 KB: 208 bytes for each level of rules in rules, of
  * which there are at most 512. boltmarrow_count_min_sentences takes up to 170 KB, 276 bytes a level,
  * and boltmarrow_min_sentence_at up to 280 KB, 512 bytes a level. boltmarrow_has_path,
- * boltmarrow_reached_fill and boltmarrow_follow_fill take 12 KB, every other call at most 1 KB. No
- * call takes other memory than its stack and its lists.
+ * boltmarrow_reached_fill and boltmarrow_follow_fill take 12 KB, boltmarrow_slice takes 1.25 KB, every
+ * other call at most 1 KB. No call takes other memory than its stack and its lists.
  *
  * Refusals:
  *   1  R, T, P or N outside its limits (R 2..512, T 1..512, P 2..4096, N 1..16384)
@@ -55,6 +55,7 @@
  *      sentences: some cheapest production, the first or another, does
  *  15  the sentence is longer than 65535 or than the room lent
  *  16  the rule has more than 65535 cheapest sentences, or not so many that there is a number k
+ *  17  a job's kind is above 4, or its next production is P or more
  *  20  file empty, not whole blocks, or over 98 blocks
  *  21  a block's check differs
  *  22  a block's number is not its place
@@ -63,9 +64,9 @@
  *  25  a token other than eof costs nothing, in a file of version 2
  *  26  a file version other than 1 or 2
  *
- * The lowest number due is given; but 16 comes before 15, the file reader's order is 7, 20, 21, 22,
- * 1, 23, 25, 2 to 6, and the file writer's 26, 1 to 6, 25, 24. A refusal leaves lent memory as found,
- * but for what a call's line says.
+ * The lowest number due is given; but 16 comes before 15, 17 of a slice before 7, the file reader's
+ * order is 7, 20, 21, 22, 1, 23, 25, 2 to 6, and the file writer's 26, 1 to 6, 25, 24. A refusal
+ * leaves lent memory as found, but for what a call's line says.
  */
 #ifndef BOLTMARROW_H
 #define BOLTMARROW_H
@@ -112,6 +113,24 @@ typedef struct {
     uint32_t symbols;
     uint32_t version;
 } boltmarrow_counts;
+
+/* a job, which fills a table by slices: what it fills (one of the kinds below), the production that
+ * the next visit is of, whether this round over the productions changed anything, and whether the job
+ * is done; 0 for no, any other number for yes, and a slice that makes visits leaves 0 or 1. A new job
+ * has its kind and is 0 otherwise. */
+typedef struct {
+    uint16_t kind;
+    boltmarrow_pidx next;
+    uint16_t changed;
+    uint16_t done;
+} boltmarrow_job;
+
+/* a job's kind: FIRST and EMPTY, FOLLOW in mode 1 and in mode 2, PRODUCTIVE, COST */
+#define BOLTMARROW_JOB_FIRST 0u
+#define BOLTMARROW_JOB_FOLLOW_CRATE 1u
+#define BOLTMARROW_JOB_FOLLOW_CORRECTED 2u
+#define BOLTMARROW_JOB_PRODUCTIVE 3u
+#define BOLTMARROW_JOB_COST 4u
 
 /* an entry of COST: up to MAX a cost; DEAR; UNKNOWN */
 #define BOLTMARROW_COST_MAX 65535u
@@ -204,6 +223,23 @@ boltmarrow_answer boltmarrow_follow_fill(BOLTMARROW_GRAMMAR, uint16_t mode, uint
                                          size_t follow_len, uint32_t *first, size_t first_len,
                                          uint32_t *empty, size_t empty_len, uint32_t *reached,
                                          size_t reached_len);
+
+/* A slice of a job: n visits of its kind, from its next production on, rising, and from 0 again behind
+ * the last; fewer only where the job is done or becomes so. The answer is how many were made, and the
+ * job says where it stands then: it is done once a whole round changed nothing. A job that began with
+ * cleared tables, FOLLOW with FIRST and EMPTY filled and, in mode 2, the reached row filled, has then
+ * left what the fill would; before, each mark and cost that it holds is true. The record is taken at
+ * its word, also one that no slice left so. Only the tables of the kind are looked at: FIRST and EMPTY;
+ * FOLLOW, which is changed, FIRST, EMPTY and the reached row, which are read; PRODUCTIVE; COST. The
+ * others may be of any length, 0 too. Refusals 1 to 6, 17, then 7, also where no visit is asked for;
+ * a refusal, and a slice without a visit, leave the record as found. Each slice checks the grammar
+ * first, so lend it hundreds of visits; and a job goes up in every round, where a fill goes up and
+ * down, so it may make more rounds. */
+boltmarrow_answer boltmarrow_slice(boltmarrow_job *job, BOLTMARROW_GRAMMAR, uint32_t n,
+                                   uint32_t *first, size_t first_len, uint32_t *empty,
+                                   size_t empty_len, uint32_t *follow, size_t follow_len,
+                                   uint32_t *productive, size_t productive_len, uint32_t *cost,
+                                   size_t cost_len, const uint32_t *reached, size_t reached_len);
 
 /* Writes the cheapest sentence of a rule, each rule replaced by its first choice, to the front of
  * `out`; the answer is its length. Refusals 1 to 7, 9; then both tables are filled, and 12 to 15 may

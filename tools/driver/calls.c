@@ -1,14 +1,15 @@
 /* Makes the calls that standard input tells of, and writes what each leaves. Both are 32-bit numbers, low byte first.
  * A call is its number in the table below, then its parameters as in boltmarrow.h: a number is one word, a list is its
- * length and then each element as one word. For each call come out the answer's words and then every element of every
- * list. Each list stands between bytes that no call may change.
+ * length and then each element as one word. But a job's record comes behind the grammar, as a list of four numbers of
+ * 16 bits. For each call come out the answer's words and then every element of every list, of the record too. Each list
+ * stands between bytes that no call may change.
  */
 #include <stdio.h>
 #include <string.h>
 
 #include "boltmarrow.h"
 
-enum { NUMBERS = 3, LISTS = 9, ROOM = 1 << 20, GUARD = 64, GUARDED = 0xa5 };
+enum { NUMBERS = 3, LISTS = 11, ROOM = 1 << 20, GUARD = 64, GUARDED = 0xa5 };
 
 struct list {
     char kind; /* b, h or w: of 8, 16 or 32 bits */
@@ -35,6 +36,7 @@ static void says(struct call *c, boltmarrow_answer said) {
 #define HALVES(k) (uint16_t *)(void *)c->list[k].at, c->list[k].len
 #define WORDS(k) (uint32_t *)(void *)c->list[k].at, c->list[k].len
 #define NUMBER(k) (uint16_t)c->number[k]
+#define JOB(k) (boltmarrow_job *)(void *)c->list[k].at
 #define RIDX(k) ((boltmarrow_ridx){NUMBER(k)})
 #define TIDX(k) ((boltmarrow_tidx){NUMBER(k)})
 #define PIDX(k) ((boltmarrow_pidx){NUMBER(k)})
@@ -60,6 +62,7 @@ CALL(reached_fill, GRAMMAR, WORDS(4))
 CALL(follow_clear, GRAMMAR, WORDS(4))
 CALL(follow_visit, GRAMMAR, NUMBER(1), PIDX(2), WORDS(4), WORDS(5), WORDS(6), WORDS(7))
 CALL(follow_fill, GRAMMAR, NUMBER(1), WORDS(4), WORDS(5), WORDS(6), WORDS(7))
+CALL(slice, JOB(4), GRAMMAR, c->number[1], WORDS(5), WORDS(6), WORDS(7), WORDS(8), WORDS(9), WORDS(10))
 CALL(min_sentence, GRAMMAR, RIDX(1), WORDS(4), WORDS(5), HALVES(6))
 CALL(count_min_sentences, GRAMMAR, RIDX(1), WORDS(4), WORDS(5), WORDS(6))
 CALL(min_sentence_at, GRAMMAR, RIDX(1), c->number[2], WORDS(4), WORDS(5), WORDS(6), HALVES(7))
@@ -101,6 +104,7 @@ static const struct {
     {follow_clear, "nhhhbw"},
     {follow_visit, "nhhhbnnwwww"},
     {follow_fill, "nhhhbnwwww"},
+    {slice, "nhhhbhkwwwwww"},
     {min_sentence, "nhhhbnwwh"},
     {count_min_sentences, "nhhhbnwww"},
     {min_sentence_at, "nhhhbnkwwwh"},

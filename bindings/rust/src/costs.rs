@@ -1,6 +1,7 @@
-use crate::sys::{self, COST_DEAR, COST_MAX, COST_UNKNOWN};
+use crate::jobs::Fills;
+use crate::sys::{self, Tables, COST_DEAR, COST_MAX, COST_UNKNOWN};
 use crate::table::{done, rule_mark};
-use crate::{Grammar, PIdx, RIdx, Refusal};
+use crate::{Grammar, Job, PIdx, RIdx, Refusal, Whole};
 
 /// PRODUCTIVE, whole: as its fill left it. It can be asked and not changed.
 #[derive(Clone, Debug)]
@@ -14,6 +15,24 @@ impl Productive<'_> {
     /// Refusal 9 for a rule that the grammar does not have.
     pub fn is_set(&self, ridx: RIdx) -> Result<bool, Refusal> {
         self.0.is_set(ridx)
+    }
+}
+
+impl<'g> Whole for Productive<'g> {
+    type Table = ProductiveTable<'g>;
+
+    fn table(&self) -> &ProductiveTable<'g> {
+        &self.0
+    }
+}
+
+impl Fills for Productive<'_> {
+    fn grammar(&self) -> &Grammar {
+        self.0.grammar
+    }
+
+    fn lent(&mut self) -> (&Grammar, Tables<'_>) {
+        (self.0.grammar, Tables { productive: &mut self.0.productive, ..Tables::default() })
     }
 }
 
@@ -49,7 +68,7 @@ impl Cost {
 
 /// COST, whole: as its fill left it. It can be asked and not changed.
 #[derive(Clone, Debug)]
-pub struct Costs<'g>(CostTable<'g>);
+pub struct Costs<'g>(pub(crate) CostTable<'g>);
 
 impl Costs<'_> {
     /// The cost of the rule's cheapest sentence; [`Cost::Dear`] where it has one but none costs 65535 or less,
@@ -60,6 +79,24 @@ impl Costs<'_> {
     /// Refusal 9 for a rule that the grammar does not have.
     pub fn cost(&self, ridx: RIdx) -> Result<Cost, Refusal> {
         self.0.cost(ridx)
+    }
+}
+
+impl<'g> Whole for Costs<'g> {
+    type Table = CostTable<'g>;
+
+    fn table(&self) -> &CostTable<'g> {
+        &self.0
+    }
+}
+
+impl Fills for Costs<'_> {
+    fn grammar(&self) -> &Grammar {
+        self.0.grammar
+    }
+
+    fn lent(&mut self) -> (&Grammar, Tables<'_>) {
+        (self.0.grammar, Tables { cost: &mut self.0.cost, ..Tables::default() })
     }
 }
 
@@ -81,6 +118,10 @@ impl<'g> ProductiveTable<'g> {
         let mut table = ProductiveTable { grammar, productive: grammar.rule_marks() };
         done(sys::productive_fill(grammar.flat(), &mut table.productive));
         Productive(table)
+    }
+
+    pub(crate) fn job(grammar: &'g Grammar) -> Job<Productive<'g>> {
+        Job::new(sys::JOB_PRODUCTIVE, Productive(Self::new(grammar)))
     }
 
     /// Takes all marks away.
@@ -112,7 +153,7 @@ impl<'g> ProductiveTable<'g> {
 #[derive(Clone, Debug)]
 pub struct CostTable<'g> {
     grammar: &'g Grammar,
-    cost: Vec<u32>,
+    pub(crate) cost: Vec<u32>,
 }
 
 impl<'g> CostTable<'g> {
@@ -126,6 +167,10 @@ impl<'g> CostTable<'g> {
         let mut table = CostTable { grammar, cost: grammar.numbers() };
         done(sys::cost_fill(grammar.flat(), &mut table.cost));
         Costs(table)
+    }
+
+    pub(crate) fn job(grammar: &'g Grammar) -> Job<Costs<'g>> {
+        Job::new(sys::JOB_COST, Costs(Self::new(grammar)))
     }
 
     /// No cost is known any more.

@@ -1,12 +1,13 @@
-use crate::sys;
+use crate::jobs::Fills;
+use crate::sys::{self, Tables};
 use crate::table::{done, mark, rule_mark, tokens};
-use crate::{Grammar, PIdx, RIdx, Refusal, TIdx};
+use crate::{FollowTable, Follows, Grammar, Job, Mode, PIdx, RIdx, Refusal, TIdx, Whole};
 
 /// FIRST and EMPTY, whole: as their fill left them. They can be asked and not changed.
 #[derive(Clone, Debug)]
 pub struct Firsts<'g>(pub(crate) FirstTable<'g>);
 
-impl Firsts<'_> {
+impl<'g> Firsts<'g> {
     /// Whether the rule can start with the token.
     ///
     /// # Errors
@@ -32,6 +33,31 @@ impl Firsts<'_> {
     /// Refusal 9 for a rule that the grammar does not have.
     pub fn firsts(&self, ridx: RIdx) -> Result<impl Iterator<Item = TIdx> + '_, Refusal> {
         self.0.firsts(ridx)
+    }
+
+    /// A job that fills FOLLOW and reads these, so that nothing is filled at once but the reached row, by one search.
+    /// In the end [`Follows::firsts`] has them.
+    pub fn follow_job(self, mode: Mode) -> Job<Follows<'g>> {
+        FollowTable::job(self, mode)
+    }
+}
+
+impl<'g> Whole for Firsts<'g> {
+    type Table = FirstTable<'g>;
+
+    fn table(&self) -> &FirstTable<'g> {
+        &self.0
+    }
+}
+
+impl Fills for Firsts<'_> {
+    fn grammar(&self) -> &Grammar {
+        self.0.grammar
+    }
+
+    fn lent(&mut self) -> (&Grammar, Tables<'_>) {
+        let FirstTable { grammar, first, empty } = &mut self.0;
+        (grammar, Tables { first, empty, ..Tables::default() })
     }
 }
 
@@ -59,6 +85,10 @@ impl<'g> FirstTable<'g> {
         let mut table = Self::unfilled(grammar);
         done(sys::first_fill(grammar.flat(), &mut table.first, &mut table.empty));
         Firsts(table)
+    }
+
+    pub(crate) fn job(grammar: &'g Grammar) -> Job<Firsts<'g>> {
+        Job::new(sys::JOB_FIRST, Firsts(Self::new(grammar)))
     }
 
     /// Takes all marks away.

@@ -1,6 +1,7 @@
-use crate::sys;
+use crate::jobs::Fills;
+use crate::sys::{self, Tables};
 use crate::table::{done, mark, tokens};
-use crate::{FirstTable, Firsts, Grammar, PIdx, RIdx, Reached, Refusal, TIdx};
+use crate::{FirstTable, Firsts, Grammar, Job, PIdx, RIdx, Reached, Refusal, TIdx, Whole};
 
 /// How FOLLOW looks at what comes after a rule, and in which productions.
 #[derive(Clone, Copy, Debug, Eq, Hash, PartialEq)]
@@ -48,6 +49,26 @@ impl<'g> Follows<'g> {
     }
 }
 
+impl<'g> Whole for Follows<'g> {
+    type Table = FollowTable<'g>;
+
+    fn table(&self) -> &FollowTable<'g> {
+        &self.0
+    }
+}
+
+impl Fills for Follows<'_> {
+    fn grammar(&self) -> &Grammar {
+        self.0.grammar()
+    }
+
+    fn lent(&mut self) -> (&Grammar, Tables<'_>) {
+        let FollowTable { follow, firsts, reached, .. } = &mut self.0;
+        let FirstTable { grammar, first, empty } = &mut firsts.0;
+        (grammar, Tables { first, empty, follow, reached: &reached.reached, ..Tables::default() })
+    }
+}
+
 /// FOLLOW, filled by single visits in any order, all in one mode, which read whole FIRST and EMPTY tables and, in the
 /// corrected mode, the whole reached row: there a visit of a dead rule's production changes nothing. Each mark that it
 /// holds is true; it is whole when no visit changes it.
@@ -60,11 +81,16 @@ pub struct FollowTable<'g> {
 }
 
 impl<'g> FollowTable<'g> {
-    pub(crate) fn new(grammar: &'g Grammar, mode: Mode) -> Self {
-        let (follow, firsts, reached) = (grammar.marks(), grammar.firsts(), grammar.reached());
-        let mut table = FollowTable { mode, follow, firsts, reached };
+    /// It reads the FIRST and EMPTY that are given.
+    pub(crate) fn new(firsts: Firsts<'g>, mode: Mode) -> Self {
+        let grammar = firsts.0.grammar;
+        let mut table = FollowTable { mode, follow: grammar.marks(), firsts, reached: grammar.reached() };
         table.clear();
         table
+    }
+
+    pub(crate) fn job(firsts: Firsts<'g>, mode: Mode) -> Job<Follows<'g>> {
+        Job::new(mode as u16, Follows(Self::new(firsts, mode)))
     }
 
     pub(crate) fn filled(grammar: &'g Grammar, mode: Mode) -> Follows<'g> {

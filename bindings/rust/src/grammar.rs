@@ -3,8 +3,8 @@ use std::io;
 use crate::sys::{self, Flat};
 use crate::table::words;
 use crate::{
-    CostTable, Costs, FirstTable, Firsts, FollowTable, Follows, Mode, PIdx, Productive, ProductiveTable, RIdx, Reached,
-    Refusal, SIdx, SentenceGenerator, Symbol, TIdx, Version,
+    CostTable, Costs, FirstTable, Firsts, FollowTable, Follows, Job, Mode, PIdx, Productive, ProductiveTable, RIdx,
+    Reached, Refusal, SIdx, SentenceGenerator, Symbol, TIdx, Version,
 };
 
 /// The bytes of the largest block file: 98 blocks.
@@ -340,6 +340,11 @@ impl Grammar {
         FirstTable::new(self)
     }
 
+    /// A job that fills FIRST and EMPTY by slices.
+    pub fn first_job(&self) -> Job<Firsts<'_>> {
+        FirstTable::job(self)
+    }
+
     /// FOLLOW.
     pub fn follows(&self, mode: Mode) -> Follows<'_> {
         FollowTable::filled(self, mode)
@@ -347,7 +352,14 @@ impl Grammar {
 
     /// FOLLOW, cleared, for single visits; with FIRST, EMPTY and the reached row, filled, which the visits read.
     pub fn follow_table(&self, mode: Mode) -> FollowTable<'_> {
-        FollowTable::new(self, mode)
+        FollowTable::new(self.firsts(), mode)
+    }
+
+    /// A job that fills FOLLOW by slices. FIRST, EMPTY and the reached row, which it reads, are filled here, at once; to
+    /// fill FIRST and EMPTY by slices too, take [`Firsts::follow_job`] of those that a [`first_job`](Self::first_job)
+    /// gave.
+    pub fn follow_job(&self, mode: Mode) -> Job<Follows<'_>> {
+        self.firsts().follow_job(mode)
     }
 
     /// PRODUCTIVE: which rules have a sentence.
@@ -360,6 +372,11 @@ impl Grammar {
         ProductiveTable::new(self)
     }
 
+    /// A job that fills PRODUCTIVE by slices.
+    pub fn productive_job(&self) -> Job<Productive<'_>> {
+        ProductiveTable::job(self)
+    }
+
     /// COST: the cost of each rule's cheapest sentence.
     pub fn costs(&self) -> Costs<'_> {
         CostTable::filled(self)
@@ -368,6 +385,11 @@ impl Grammar {
     /// COST, cleared, for single visits.
     pub fn cost_table(&self) -> CostTable<'_> {
         CostTable::new(self)
+    }
+
+    /// A job that fills COST by slices.
+    pub fn cost_job(&self) -> Job<Costs<'_>> {
+        CostTable::job(self)
     }
 
     /// Cheapest sentences, by this grammar's token costs.

@@ -3,7 +3,7 @@
 //!
 //! A [`Grammar`] owns its flat tables and is checked once, when it is made. All else borrows it, with tables of the
 //! lengths that it needs. What can still be refused is a number that the grammar does not have, or a sentence that is
-//! not there: a [`Refusal`].
+//! not there: a [`Refusal`]. A [`Job`] fills a table in slices, for a program that has a screen to draw meanwhile.
 //!
 //! ```
 //! use boltmarrow::{Grammar, Mode, RIdx, TIdx};
@@ -30,6 +30,7 @@ mod firsts;
 mod follows;
 mod grammar;
 mod idx;
+mod jobs;
 mod reached;
 mod refusal;
 mod sentences;
@@ -44,6 +45,7 @@ pub use firsts::{FirstTable, Firsts};
 pub use follows::{FollowTable, Follows, Mode};
 pub use grammar::Grammar;
 pub use idx::{PIdx, RIdx, SIdx, Symbol, TIdx};
+pub use jobs::{Job, Whole};
 pub use reached::Reached;
 pub use refusal::Refusal;
 pub use sentences::{MinSentences, SentenceGenerator};

@@ -39,6 +39,8 @@ pub enum Refusal {
     Room = 15,
     /// The rule has more than 65535 cheapest sentences, or not so many that there is one of this number.
     TooMany = 16,
+    /// A job's kind is above 4, or its next production is P or more. This crate makes no such job.
+    Job = 17,
     /// The file is empty, not whole blocks, or over 98 blocks.
     FileLength = 20,
     /// A block's check differs.
@@ -76,6 +78,7 @@ impl Refusal {
         Circular,
         Room,
         TooMany,
+        Job,
         FileLength,
         BlockCheck,
         BlockNumber,
@@ -121,6 +124,7 @@ impl Refusal {
             }
             Room => "the sentence is longer than 65535 tokens or than the room for it",
             TooMany => "the rule has more than 65535 cheapest sentences, or none of this number",
+            Job => "a job is of kind 0 to 4, and its next production is one of the grammar",
             FileLength => "the file is empty, is not made of whole blocks of 512 bytes, or has more than 98",
             BlockCheck => "a block of the file is damaged: its check does not fit its bytes",
             BlockNumber => "a block of the file is out of place: its number is not its position",

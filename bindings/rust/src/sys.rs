@@ -16,6 +16,11 @@ pub(crate) const COST_UNKNOWN: u32 = 65537;
 /// The tokens of the longest sentence that is given.
 pub(crate) const LENGTH_MAX: usize = 65535;
 
+/// A job's kinds, as in the header; FOLLOW's are its modes, 1 and 2.
+pub(crate) const JOB_FIRST: u16 = 0;
+pub(crate) const JOB_PRODUCTIVE: u16 = 3;
+pub(crate) const JOB_COST: u16 = 4;
+
 /// A grammar as the calls take it: any lists at all.
 #[derive(Clone, Copy)]
 pub(crate) struct Flat<'a> {
@@ -51,6 +56,34 @@ pub(crate) struct Counts {
     pub(crate) prods: u32,
     pub(crate) symbols: u32,
     pub(crate) version: u32,
+}
+
+/// `boltmarrow_job`: what it fills, the next production, whether this round changed anything, and whether it is done.
+#[derive(Clone, Copy, Debug, Eq, PartialEq)]
+#[repr(C)]
+pub(crate) struct Job {
+    pub(crate) kind: u16,
+    pub(crate) next: u16,
+    pub(crate) changed: u16,
+    pub(crate) done: u16,
+}
+
+impl Job {
+    /// A new job of a kind.
+    pub(crate) fn new(kind: u16) -> Job {
+        Job { kind, next: 0, changed: 0, done: 0 }
+    }
+}
+
+/// The tables that a slice takes. Only those of the job's kind are looked at: the others are left empty.
+#[derive(Default)]
+pub struct Tables<'a> {
+    pub(crate) first: &'a mut [u32],
+    pub(crate) empty: &'a mut [u32],
+    pub(crate) follow: &'a mut [u32],
+    pub(crate) productive: &'a mut [u32],
+    pub(crate) cost: &'a mut [u32],
+    pub(crate) reached: &'a [u32],
 }
 
 impl Answer {
@@ -185,6 +218,66 @@ pub(crate) fn min_sentence_at(g: Flat, rule: u16, k: u32, tables: [&mut [u32]; 3
             counts.len(),
             out.as_mut_ptr(),
             out.len(),
+        )
+    }
+}
+
+extern "C" {
+    fn boltmarrow_slice(
+        job: *mut Job,
+        rules: u16,
+        owners: *const u16,
+        _: usize,
+        starts: *const u16,
+        _: usize,
+        symbols: *const u16,
+        _: usize,
+        costs: *const u8,
+        _: usize,
+        n: u32,
+        first: *mut u32,
+        _: usize,
+        empty: *mut u32,
+        _: usize,
+        follow: *mut u32,
+        _: usize,
+        productive: *mut u32,
+        _: usize,
+        cost: *mut u32,
+        _: usize,
+        reached: *const u32,
+        _: usize,
+    ) -> Answer;
+}
+
+pub(crate) fn slice(job: &mut Job, g: Flat, n: u32, tables: Tables) -> Answer {
+    let Tables { first, empty, follow, productive, cost, reached } = tables;
+    // Safe: see the head of this file; the job is a record of its own.
+    unsafe {
+        boltmarrow_slice(
+            job,
+            g.rules,
+            g.owners.as_ptr(),
+            g.owners.len(),
+            g.starts.as_ptr(),
+            g.starts.len(),
+            g.symbols.as_ptr(),
+            g.symbols.len(),
+            g.costs.as_ptr(),
+            g.costs.len(),
+            n,
+            first.as_mut_ptr(),
+            first.len(),
+            empty.as_mut_ptr(),
+            empty.len(),
+            follow.as_mut_ptr(),
+            follow.len(),
+            productive.as_mut_ptr(),
+            productive.len(),
+            cost.as_mut_ptr(),
+            cost.len(),
+            reached.as_ptr(),
+            reached.len(),
         )
     }
 }

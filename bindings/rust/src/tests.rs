@@ -1,12 +1,13 @@
 //! What the crate reads from its own lists and tables, without a call, held to what the library's calls answer: on the
-//! grammars of examples/ and on random ones, numbers that are not there included.
+//! grammars of examples/ and on random ones, numbers that are not there included. And on the same grammars what a job
+//! leaves, held word by word to what the fill leaves.
 use std::fs;
 use std::path::Path;
 
 use crate::costs::ProductiveTable;
 use crate::follows::FollowTable;
 use crate::sys;
-use crate::{FirstTable, Grammar, Mode, PIdx, RIdx, Reached, Refusal, SIdx, Symbol, TIdx};
+use crate::{FirstTable, Grammar, Job, Mode, PIdx, RIdx, Reached, Refusal, SIdx, Symbol, TIdx, Whole};
 
 /// Numbers that are no rule's, token's or production's where there are so many.
 fn outside(len: u16) -> [u16; 4] {
@@ -199,6 +200,45 @@ fn any_words_are_read_as_the_library_answers() {
             holds_firsts(&firsts);
             holds_productive(&productive);
             holds_follows(&grm, &follows);
+        }
+    }
+}
+
+/// What a job leaves that is worked on in slices of random lengths, among them 0 and some that are longer than a round.
+fn sliced<W: Whole>(random: &mut Random, mut job: Job<W>) -> W {
+    let longest = 1 + random.below(2000);
+    while !job.is_done() {
+        job.slice(random.below(longest + 1).into());
+    }
+    assert!(job.rounds() <= job.rounds_most());
+    job.finish().ok().unwrap()
+}
+
+/// The words of all tables that jobs leave, beside those of the fills.
+fn holds_jobs(random: &mut Random, grm: &Grammar) {
+    let (firsts, job) = (grm.firsts().0, sliced(random, grm.first_job()).0);
+    assert_eq!((job.first, job.empty), (firsts.first, firsts.empty));
+    assert_eq!(sliced(random, grm.productive_job()).0.productive, grm.productive().0.productive);
+    assert_eq!(sliced(random, grm.cost_job()).0.cost, grm.costs().0.cost);
+    for mode in [Mode::Crate, Mode::Corrected] {
+        let (follows, job) = (grm.follows(mode), sliced(random, grm.follow_job(mode)));
+        assert_eq!(job.0.follow, follows.0.follow);
+        let (read, kept) = (&job.firsts().0, &follows.firsts().0);
+        assert_eq!((&read.first, &read.empty), (&kept.first, &kept.empty));
+        assert_eq!(job.reached().reached, follows.reached().reached);
+    }
+}
+
+#[test]
+fn jobs_leave_the_words_of_the_fills() {
+    let mut random = Random(362436069);
+    for grm in &examples() {
+        holds_jobs(&mut random, grm);
+    }
+    for rules in COUNTS {
+        for tokens in [1].into_iter().chain(COUNTS) {
+            let grm = random.grammar(rules, tokens);
+            holds_jobs(&mut random, &grm);
         }
     }
 }

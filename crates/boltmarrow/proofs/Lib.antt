@@ -1,3 +1,4 @@
 pub mod Produced
 pub mod Determined
 pub mod Told
+pub mod Showing

@@ -4,6 +4,7 @@ pub mod Parts
 pub mod Yields
 pub mod Rounds
 pub mod Fills
+pub mod Slices
 pub mod Count
 pub mod First
 pub mod Follow

@@ -1,5 +1,5 @@
-//! What no safe call can do: tables of other lengths, short buffers, other modes and versions, for each call that takes
-//! one.
+//! What no safe call can do: tables of other lengths, short buffers, damaged jobs, other modes and versions, for each call
+//! that takes one.
 use super::*;
 
 const G1: Flat = Flat {
@@ -160,6 +160,9 @@ fn a_refused_grammar_ends_every_call_first() {
     assert_eq!(refused(min_sentence(wrong, 9, &mut table, &mut [], &mut [])), 1);
     assert_eq!(refused(count_min_sentences(wrong, 9, &mut table, &mut [], &mut [])), 1);
     assert_eq!(refused(min_sentence_at(wrong, 9, 9, [&mut table, &mut [], &mut []], &mut [])), 1);
+    let mut job = Job { kind: 9, next: 99, changed: 9, done: 9 };
+    assert_eq!(refused(slice(&mut job, wrong, 9, Tables { first: &mut table, ..Tables::default() })), 1);
+    assert_eq!(job, Job { kind: 9, next: 99, changed: 9, done: 9 });
     assert_eq!(table, [9; 3]);
     for len in [0, 511, 600] {
         let mut out = vec![9; len];
@@ -226,4 +229,158 @@ fn follows_fill_leaves_the_reached_row() {
             assert_eq!((follow, reached), ([0b100, 0b100, 0b100 | z, 0], [0b0111]), "mode {mode}, row {row:b}");
         }
     }
+}
+
+/// FIRST, EMPTY, FOLLOW, PRODUCTIVE, COST and the reached row of a slice, of any lengths.
+type Words = [Vec<u32>; 6];
+
+/// The lengths that G1 has them in.
+const LENGTHS: [usize; 6] = [4, 1, 4, 1, 4, 1];
+
+/// Those that a job of the kind looks at.
+const LOOKED_AT: [&[usize]; 5] = [&[0, 1], &[0, 1, 2, 5], &[0, 1, 2, 5], &[3], &[4]];
+
+/// Those of them that it writes.
+const WRITTEN: [&[usize]; 5] = [&[0, 1], &[2], &[2], &[3], &[4]];
+
+const PRODS: u16 = 6;
+
+fn words() -> Words {
+    LENGTHS.map(|len| vec![9; len])
+}
+
+fn sliced(job: &mut Job, g: Flat, n: u32, words: &mut Words) -> Result<u32, u32> {
+    let [first, empty, follow, productive, cost, reached] = words;
+    slice(job, g, n, Tables { first, empty, follow, productive, cost, reached }).number().map_err(Refusal::number)
+}
+
+/// The slice is refused with this number, and leaves the record and the tables as found.
+fn holds_refused(refusal: u32, job: Job, g: Flat, tables: &Words) {
+    for n in [0, 1, u32::MAX] {
+        let (mut after, mut words) = (job, tables.clone());
+        assert_eq!(sliced(&mut after, g, n, &mut words), Err(refusal), "{job:?}, {n} visits");
+        assert_eq!((after, &words), (job, tables));
+    }
+}
+
+/// Kinds above 4 and next productions that are not there, in a job that is done too; 17 comes before 7.
+#[test]
+fn seventeen_for_damaged_jobs() {
+    let kinds = [5, 6, 256, 260, 65535].into_iter().flat_map(|kind| [0, 5, 6].map(|next| (kind, next)));
+    let nexts = (0..5).flat_map(|kind| [PRODS, PRODS + 1, 256, 65535].map(|next| (kind, next)));
+    for (kind, next) in kinds.chain(nexts) {
+        for done in [0, 1] {
+            let job = Job { kind, next, changed: 1, done };
+            holds_refused(17, job, G1, &words());
+            holds_refused(17, job, G1, &Words::default());
+        }
+    }
+}
+
+/// A production holds rule 0.
+#[test]
+fn six_comes_before_seventeen() {
+    let wrong = Flat { symbols: &[32768, 0, 32771, 2, 1, 0, 32769], ..G1 };
+    for job in [Job::new(0), Job { next: PRODS, ..Job::new(4) }, Job::new(5), Job::new(65535)] {
+        holds_refused(6, job, wrong, &words());
+        holds_refused(6, job, wrong, &Words::default());
+    }
+}
+
+/// Each table of the kind in a wrong length, for a job that is done too.
+#[test]
+fn seven_for_the_tables_of_a_jobs_kind() {
+    for (kind, at) in (0..5).flat_map(|kind| LOOKED_AT[usize::from(kind)].iter().map(move |at| (kind, *at))) {
+        for len in [0, LENGTHS[at] - 1, LENGTHS[at] + 1, 9] {
+            let mut wrong = words();
+            wrong[at] = vec![9; len];
+            holds_refused(7, Job::new(kind), G1, &wrong);
+            holds_refused(7, Job { next: PRODS - 1, changed: 1, done: 1, kind }, G1, &wrong);
+        }
+    }
+}
+
+/// Other kinds' tables may be of any length; a slice changes nothing but what its kind writes.
+#[test]
+fn a_slice_looks_at_its_kinds_tables_only() {
+    for kind in 0..5 {
+        for len in [0, 1, 2, 3, 5, 9] {
+            let at = usize::from(kind);
+            let mut before = words();
+            for other in (0..6).filter(|other| !LOOKED_AT[at].contains(other)) {
+                before[other] = vec![9; len];
+            }
+            let (mut job, mut after) = (Job::new(kind), before.clone());
+            let made = sliced(&mut job, G1, u32::MAX, &mut after).unwrap();
+            assert!(made >= PRODS.into() && made % u32::from(PRODS) == 0);
+            assert_eq!(job, Job { done: 1, ..Job::new(kind) });
+            for table in (0..6).filter(|table| !WRITTEN[at].contains(table)) {
+                assert_eq!(after[table], before[table], "kind {kind}, table {table}");
+            }
+        }
+    }
+}
+
+/// G1's tables by single visits, with FIRST and EMPTY whole where FOLLOW reads them; each slice's record.
+#[test]
+fn the_record_goes_on_from_slice_to_slice() {
+    let mut words: Words =
+        [vec![0; 4], vec![0; 1], vec![0b1000, 0, 0, 0], vec![0], vec![COST_UNKNOWN; 4], vec![0b1111]];
+    for kind in 0..5 {
+        let (mut job, mut left) = (Job::new(kind), Job::new(kind));
+        for visits in 0.. {
+            assert_eq!((job.kind, job.next), (kind, visits % PRODS));
+            let before = (job, words.clone());
+            assert_eq!(sliced(&mut job, G1, 0, &mut words), Ok(0));
+            assert_eq!((job, &words), (before.0, &before.1));
+            if job.done != 0 {
+                break;
+            }
+            assert_eq!(sliced(&mut job, G1, 1, &mut words), Ok(1));
+            left.changed |= u16::from(words != before.1);
+            left.next = (left.next + 1) % PRODS;
+            if left.next == 0 {
+                (left.changed, left.done) = (0, 1 - left.changed);
+            }
+            assert_eq!(job, left);
+        }
+        let before = (job, words.clone());
+        assert_eq!(sliced(&mut job, G1, u32::MAX, &mut words), Ok(0));
+        assert_eq!((job, &words), (before.0, &before.1));
+    }
+    assert_eq!(words[..2], [vec![0b101, 0b101, 0b100, 0b010], vec![0b1100]]);
+    assert_eq!(words[2..], [vec![0b1000, 0b1000, 0b0001, 0b1000], vec![0b1111], vec![1, 1, 0, 0], vec![0b1111]]);
+}
+
+/// Any number but 0 is yes. A slice writes 1 for it; one without a visit writes nothing.
+#[test]
+fn stray_numbers_are_yes() {
+    let mut whole = words();
+    let [first, empty, ..] = &mut whole;
+    first_fill(G1, first, empty).number().unwrap();
+    for yes in [1, 2, 256, 65535] {
+        let (mut done, mut words) = (Job { done: yes, changed: yes, ..Job::new(0) }, whole.clone());
+        assert_eq!(sliced(&mut done, G1, 9, &mut words), Ok(0));
+        assert_eq!(done, Job { done: yes, changed: yes, ..Job::new(0) });
+        let mut changed = Job { changed: yes, ..Job::new(0) };
+        assert_eq!(sliced(&mut changed, G1, 0, &mut words), Ok(0));
+        assert_eq!(changed, Job { changed: yes, ..Job::new(0) });
+        // the rest of a round that is said to have changed something: one more round is due
+        assert_eq!(sliced(&mut changed, G1, 2, &mut words), Ok(2));
+        assert_eq!(changed, Job { next: 2, changed: 1, ..Job::new(0) });
+        assert_eq!(sliced(&mut changed, G1, 4, &mut words), Ok(4));
+        assert_eq!(changed, Job::new(0));
+        assert_eq!(sliced(&mut changed, G1, 9, &mut words), Ok(6));
+        assert_eq!(changed, Job { done: 1, ..Job::new(0) });
+        assert_eq!(words, whole);
+    }
+}
+
+/// A record is taken at its word: the last production's visit ends the round, and with it the job, though none before it
+/// was visited.
+#[test]
+fn a_record_is_taken_at_its_word() {
+    let (mut job, mut words) = (Job { next: PRODS - 1, ..Job::new(0) }, LENGTHS.map(|len| vec![0; len]));
+    assert_eq!(sliced(&mut job, G1, 9, &mut words), Ok(1));
+    assert_eq!((job, words), (Job { done: 1, ..Job::new(0) }, LENGTHS.map(|len| vec![0; len])));
 }

@@ -3,6 +3,7 @@
 mod differences;
 mod files;
 mod grammars;
+mod jobs;
 mod refusals;
 mod reports;
 mod sentences;

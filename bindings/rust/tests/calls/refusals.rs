@@ -1,5 +1,5 @@
-//! Each refusal of a grammar and of a number; tests/calls/files.rs has those of a file, src/sys/tests.rs 7, 8, 24 and the
-//! writer's order.
+//! Each refusal of a grammar and of a number; tests/calls/files.rs has those of a file, src/sys/tests.rs 7, 8, 17, 24 and
+//! the writer's order.
 use std::collections::HashSet;
 
 use boltmarrow::{Grammar, Mode, PIdx, RIdx, Refusal, TIdx};
@@ -9,7 +9,7 @@ use crate::grammars::{built, g1, g1_tables, of, well, RULE};
 #[test]
 fn numbers_are_the_documents() {
     let numbers: Vec<u32> = Refusal::ALL.iter().map(|refusal| refusal.number()).collect();
-    assert_eq!(numbers, [1, 2, 3, 4, 5, 6, 7, 8, 9, 10, 11, 12, 13, 14, 15, 16, 20, 21, 22, 23, 24, 25, 26]);
+    assert_eq!(numbers, [1, 2, 3, 4, 5, 6, 7, 8, 9, 10, 11, 12, 13, 14, 15, 16, 17, 20, 21, 22, 23, 24, 25, 26]);
 }
 
 #[test]
@@ -100,7 +100,7 @@ fn the_lowest_number_due_is_given() {
 }
 
 /// Each rule from 0 on is the next one, the last is nothing.
-fn chain(rules: u16) -> Result<Grammar, Refusal> {
+pub fn chain(rules: u16) -> Result<Grammar, Refusal> {
     let next: Vec<[u16; 1]> = (1..rules).map(|r| [RULE + r]).collect();
     let mut prods: Vec<(u16, &[u16])> = next.iter().zip(0..).map(|(body, r)| (r, &body[..])).collect();
     prods.push((rules - 1, &[]));

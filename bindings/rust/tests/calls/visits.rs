@@ -10,7 +10,8 @@ fn rounds(grm: &Grammar, mut visit: impl FnMut(PIdx) -> Result<bool, Refusal>) {
     while round() > 0 {}
 }
 
-fn marks<S: Iterator<Item = TIdx>>(grm: &Grammar, set: impl Fn(RIdx) -> Result<S, Refusal>) -> Vec<Vec<TIdx>> {
+/// Each rule's tokens.
+pub fn marks<S: Iterator<Item = TIdx>>(grm: &Grammar, set: impl Fn(RIdx) -> Result<S, Refusal>) -> Vec<Vec<TIdx>> {
     grm.iter_rules().map(|ridx| set(ridx).unwrap().collect()).collect()
 }
 

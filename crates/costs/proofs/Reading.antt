@@ -5,7 +5,9 @@ use mathlib.Core.Path.{_≡_, refl, sym, ap, _∙_}
 use Prim.Native.Nat.{ℕ, _+_, _-_, _≤_, _<_, min}
 use native.Mathlib.Decide.{ℕ-discrete}
 use native.Mathlib.Omega.{arith}
+use lib.Dec.{leb}
 use lib.ListN.{length, getD, set, length-set}
+use borrow.Author.Tests.{leb-true, leb-false}
 use lib.Seq.{getD-set-same, getD-set-other}
 use Rattle.theory.specs.Visits.{Costs}
 use Rattle.grammar.specs.Flat.{at, form}
@@ -98,3 +100,20 @@ module _ (symbols costs : List ℕ) (a e : ℕ) (cost : List ℕ) (read : List B
 
             pub reading-on : to < top → SummedRead symbols costs a e cost read top (i + 1) to next
             reading-on l = record { cap = omega arith; upto = omega arith; adds = adds-then (m .adds) (c .adds); sums = after }
+
+        -- a part that is less than what is left of `top` is added
+        pub reading-below : x < top - n → (to : ℕ) → to ≡ n + x → SummedRead symbols costs a e cost read top (i + 1) to next
+        reading-below l to q = let k : x ≤ 65536 = omega (arith, ok .upto) in reading-on k to (omega (arith, ok .upto)) (omega arith)
+
+        module _ (l : top - n ≤ x) where
+          -- any other makes the sum come to a `top` that is known, an unknown part too
+          pub reading-known : top ≤ 65536 → ReadsSum top costs cost (form symbols a e) read top next
+          reading-known f = go (leb x 65536) refl
+            where
+              go : (b : Bool) → leb x 65536 ≡ b → ReadsSum top costs cost (form symbols a e) read top next
+              go true q = reading-over (leb-true x 65536 q) (min (n + x) 65536) refl (omega arith)
+              go false q = reading-unknown (leb-false x 65536 q)
+
+          -- and a known one, where `top` is unknown, makes it dear
+          pub reading-cut : 65536 < top → x ≤ 65536 → SummedRead symbols costs a e cost read top (i + 1) 65536 next
+          reading-cut f k = reading-on k 65536 (omega arith) (omega arith)

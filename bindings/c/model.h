@@ -1,7 +1,8 @@
 /* Document 01 once more in C, with the file writer, the versions, the several exports, the reached rules, the lists of
  * cheapest sentences, the dear entries and the slices of document 02, plain and slow, to compare the library with. It
- * is written from those texts, with the readings of their open points in docs/DECISIONS.md, and from no crate. A call
- * names an exported function and holds what it is lent; `model` makes the call on those lists. */
+ * is written from those texts, with the readings of their open points in docs/DECISIONS.md, and from no crate; but the
+ * slices' crate had been read before. A call names an exported function and holds what it is lent; `model` makes the
+ * call on those lists. */
 #include <stddef.h>
 #include <stdint.h>
 #include <string.h>

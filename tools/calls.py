@@ -1,4 +1,4 @@
-"""The 25 calls of bindings/include/boltmarrow.h once more, in plain Python, on arbitrary lists and numbers. They are
+"""The 26 calls of bindings/include/boltmarrow.h once more, in plain Python, on arbitrary lists and numbers. They are
 written from documents 01 and 02, over the definitions and visits of plain.py: here are the tables as words, their
 lengths and the calls' own refusals. A block file is written by bin/blocks. A call changes the lists that it is lent,
 and returns its values or raises plain.Refused.
@@ -214,6 +214,11 @@ def follow_fill(g, mode, follow, first, empty, reached):
     return [0]
 
 
+def profile(g, follow, first, empty, reached):
+    follow_fill(g, 2, follow, first, empty, reached)
+    return plain.verdict(g)
+
+
 def worked(g, job, n, visit):
     """Makes n visits of the job, fewer only where it is or becomes done, each a function of the production's number;
     the record says where the job stands then. Without a visit it stays as it is."""
@@ -331,6 +336,7 @@ CALLS = {
     "follow_clear": Call("marks", (7,), 1, follow_clear),
     "follow_visit": Call("mode prod marks marks row reached", (7, 8, 11), 1, follow_visit),
     "follow_fill": Call("mode marks marks row reached", (7, 8), 1, follow_fill),
+    "profile": Call("marks marks row reached", (7,), 5, profile),
     "slice": Call("job n marks row marks row entries reached", (7, 17), 1, job_slice),
     "min_sentence": Call("rule entries entries room", (7, 9, 12, 13, 14, 15), 1, min_sentence),
     "count_min_sentences": Call("rule entries entries counts", (7, 9, 12, 13, 14, 16), 1, count_min_sentences),

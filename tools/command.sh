@@ -1,6 +1,23 @@
-# The program of bindings/rust/command, for scripts of bin/ to source; they define `say`, `die` and `root`, the
-# repository's top. It is built where it is older than its sources or the library, and so is the library before it. Then
-# `command` is the program.
+# Runs a subcommand of the program of bindings/rust/command with this script's words, for scripts of bin/ to source;
+# they set `name`, the subcommand, and `root`, the repository's top. The program stands on the proved library. Both are
+# built first where they are older than their sources; the library takes some minutes the first time.
+say() {
+    printf '%s: %s\n' "$name" "$*" >&2 || true
+}
+
+die() {
+    say "$@"
+    exit 2
+}
+
+# A program in Rust takes a closed standard input or output for an empty one.
+{ true 3>&1; } 2>/dev/null || die 'standard output is closed'
+for word in "$@"; do
+    if [ "$word" = - ]; then
+        { true 3<&0; } 2>/dev/null || die 'standard input is closed'
+    fi
+done
+
 command=$root/target/rust/release/boltmarrow
 library=$root/target/staticlib/libboltmarrow.a
 if [ ! -x "$command" ] || [ -n "$(find "$root/bindings/rust" "$root/crates" "$root/crates.txt" "$library" -type f \
@@ -18,3 +35,4 @@ if [ ! -x "$command" ] || [ -n "$(find "$root/bindings/rust" "$root/crates" "$ro
             touch "$command"
     ) </dev/null >&2 || die 'the program is not built'
 fi
+exec "$command" "$name" "$@"

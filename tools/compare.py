@@ -14,9 +14,9 @@ that of the Rust's min_sentences, row by row, where it is short and the Rust ret
 panics, the grammar must have what the named difference says, worked out from the grammar alone; if it runs out of time
 without such a reason, it is asked again with more time, which is counted. What we answer there must be what the
 documents say. The reached rules must be rule 0 and those to which the Rust has a path from it; mode 2 FOLLOW must be
-what the documents say, and hold what the Rust's rule gives over the productions of reached rules. Each kind is counted,
-and each kind of difference shown with the smallest grammar that has it; the program exits with 1 if one is not
-explained.
+what the documents say, and hold what the Rust's rule gives over the productions of reached rules. The profile, which
+the Rust has not, must be what the documents say. Each kind is counted, and each kind of difference shown with the
+smallest grammar that has it; the program exits with 1 if one is not explained.
 """
 import collections
 import concurrent.futures
@@ -41,6 +41,7 @@ LARGE_EVERY = 2000  # so many random grammars from a large one to the next, whic
 UNEXPLAINED = "UNEXPLAINED "
 STOPPED = ("out of time", "out of memory")
 AGAIN = 20  # times the time for a grammar on which the Rust ran out of it without a reason
+PASSES, CLASHES = "profile: the grammar passes", "profile: the grammar clashes"
 # Whether FOLLOW of mode 2 has marks that the Rust has not, and whether the Rust has marks that it has not.
 MODE_2 = {
     (False, False): "FOLLOW, mode 2: the same",
@@ -102,6 +103,7 @@ def plain_answer(g, listed=()):
         "follow": [sorted(held) for held in plain.follows(g, 1)],
         "corrected": [sorted(held) for held in plain.follows(g, 2)],
         "reached": [int(r in plain.reached(g)) for r in rules],
+        "profile": plain.verdict(g),
         "path": [[int(plain.has_path(g, a, b)) for b in rules] for a in rules],
         "beyond": [outcome(plain.production, g, len(g.owners)), outcome(plain.has_path, g, g.rules, 0),
                    outcome(plain.has_path, g, 0, g.rules)],
@@ -180,6 +182,8 @@ class Comparer(Comparison):
             self.reading = Reading(g)
         self.listed = sorted({*self.reading.listed(), *said_lists(name)}) if well else []
         self.ours = self.ask_ours(g, self.listed)
+        if well and "refused" not in self.ours:
+            self.profile()
         if well and not plain.built(g):
             self.alone()
             return
@@ -200,6 +204,14 @@ class Comparer(Comparison):
         for said in SAID:
             if said[0] == name:
                 self.said(*said[1:])
+
+    def profile(self):
+        """The verdict on one-token readers, which the Rust has not."""
+        ours, due = self.ours["profile"], plain.verdict(self.g)
+        if ours == due:
+            self.count(CLASHES if due[0] else PASSES)
+        else:
+            self.unexplained("profile: ours is not document 02's", f"{ours} and not {due}")
 
     def alone(self):
         """Rule 0 owns several productions, so the Rust is not asked."""
@@ -409,7 +421,8 @@ def main(words):
     for kind, (g, details) in sorted(result.smallest.items()):
         print(f"{kind}: {details}{grammars.shown(g)[:1000]}")
     wrong = sum(number for kind, number in result.kinds.items() if kind.startswith(UNEXPLAINED))
-    print(f"{sum(result.shapes.values())} grammars, {wrong} unexplained")
+    profiles = f"{result.kinds[PASSES]} pass the profile and {result.kinds[CLASHES]} clash"
+    print(f"{sum(result.shapes.values())} grammars, {wrong} unexplained; {profiles}")
     return 1 if wrong else 0
 
 

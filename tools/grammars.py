@@ -235,6 +235,22 @@ def equal_choices(draw):
     return shuffled(draw, len(rules) + 1, [draw.randint(0, 2)] * len(tokens) + [1], bodies)
 
 
+def one_token(draw):
+    """For readers that decide by the next token: the productions of a rule start with tokens of their own, and in some
+    one of them is rules of higher number alone, or nothing. In half of the grammars one or two start as another one of
+    their rule does, or vanish too."""
+    rules, tokens = range(1, draw.randint(2, 5) + 1), range(draw.choice((6, 12, 30, 31, 32, 63, 64)))
+    bodies = []
+    for r in rules:
+        own = draw.sample(tokens, draw.randint(2, 6))
+        bodies += [(r, [t] + any_body(draw, rules, tokens, 2)) for t in own]
+        if draw.random() < 0.5:
+            bodies.append((r, any_body(draw, rules[r:], [], 2)))
+    for r, body in draw.sample(bodies, draw.choice((0, 0, 1, 2))):
+        bodies.append((r, body[:1] + any_body(draw, rules, tokens, 1) if draw.random() < 0.7 else []))
+    return shuffled(draw, len(rules) + 1, any_costs(draw, len(tokens)), bodies)
+
+
 def doubled(first, count, body):
     """Productions of so many rules from the first on: each twice the one before, the first as given."""
     return [(first, body)] + [(r, [RULE + r - 1] * 2) for r in range(first + 1, first + count)]
@@ -347,8 +363,8 @@ def many_rows(draw):
 large = {shape.__name__: shape for shape in (most_rules, one_limit, at_limits, many_rows)}
 shapes = {shape.__name__: shape for shape in (
     anything, way_out, layered, left_recursion, right_recursion, middle_recursion, own_rule, mutual_recursion,
-    unit_cycles, empty_chains, no_sentence, unreached, free_tokens, equal_choices, dear, dear_flat, long_sentences,
-    single_file, wide_tokens, many_rules, wide_both)} | large
+    unit_cycles, empty_chains, no_sentence, unreached, free_tokens, equal_choices, one_token, dear, dear_flat,
+    long_sentences, single_file, wide_tokens, many_rules, wide_both)} | large
 
 
 # Several exports.

@@ -1,8 +1,8 @@
 #!/usr/bin/env python3
 """Document 01 once more, plain and slow: sets, recursion and whole numbers of any size; of document 02 the versions of
 the block file, several exports in one grammar, that in mode 2 of FOLLOW only productions of reached rules count,
-all cheapest sentences, and entries of COST that tell dear from unknown. It is written from those texts, with the readings of their open points in docs/DECISIONS.md, and
-from no crate.
+all cheapest sentences, entries of COST that tell dear from unknown, and the profile of one-token readers. It is
+written from those texts, with the readings of their open points in docs/DECISIONS.md, and from no crate.
 
     tools/plain.py report FILE         the report of a block file; '-' stands for standard input
 
@@ -208,6 +208,54 @@ def least_follow(g, mode, counting):
         for heir in linked(r, heirs):
             follow[heir] |= own[r]
     return follow
+
+
+class Clash(NamedTuple):
+    """Two productions of a rule that the next token does not tell apart, and the least token that they share: T where
+    both can vanish and they share none."""
+
+    rule: int
+    lower: int
+    higher: int
+    token: int
+
+
+def begins(body, first, empty):
+    """The tokens that the forms which a body derives start with."""
+    return set().union(*(first[s - RULE] if s >= RULE else {s} for s in leads(body, empty)[0]))
+
+
+def deciding(g):
+    """Of each production the next tokens by which a reader takes it: those that it may start with, and mode 2 FOLLOW of
+    its owner where it can vanish."""
+    first, empty, follow = firsts(g), empties(g), follows(g, 2)
+    return [begins(body, first, empty) | (follow[r] if vanishes(body, empty) else set()) for r, body in g.productions()]
+
+
+def own_pairs(g):
+    """The pairs of productions of one rule: by rule, lower production, higher production."""
+    for r in range(g.rules):
+        own = [p for p, owner in enumerate(g.owners) if owner == r]
+        yield from ((r, lower, higher) for lower, higher in itertools.combinations(own, 2))
+
+
+def profile(g):
+    """The least clash by rule, lower production, higher production, token; None where the grammar passes."""
+    check(g)
+    tokens, empty = deciding(g), empties(g)
+    for r, lower, higher in own_pairs(g):
+        shared = tokens[lower] & tokens[higher]
+        if shared:
+            return Clash(r, lower, higher, min(shared))
+        if vanishes(g.body(lower), empty) and vanishes(g.body(higher), empty):
+            return Clash(r, lower, higher, len(g.costs))
+    return None
+
+
+def verdict(g):
+    """The profile as five numbers: 1 and the least clash, or all 0 where the grammar passes."""
+    clash = profile(g)
+    return [1, *clash] if clash else [0] * 5
 
 
 def has_path(g, a, b):

@@ -112,6 +112,21 @@ class Calls(unittest.TestCase):
             self.assertEqual(calls.answer("follow_visit", [DEAD, mode, 3, follow, [1] * 4, [0], reached]), [0, changed])
             self.assertEqual((follow, reached), ([4, 4, 4 + 2 * changed, 0], [row]))
 
+    def test_profile(self):
+        tables = [9] * 4, [9] * 4, [1 << 31], [1 << 31]
+        self.assertEqual(calls.answer("profile", [G1, *tables]), [0] * 6)
+        self.assertEqual(tables, ([8, 8, 1, 8], [5, 5, 4, 2], [12], [15]))
+        # U: A z; U: a: production 4 is the second of rule 3
+        g = DEAD._replace(owners=DEAD.owners + [3], starts=DEAD.starts + [6], symbols=DEAD.symbols + [0])
+        self.assertEqual(calls.answer("profile", [g, *tables]), [0, 1, 3, 3, 4, 0])
+        self.assertEqual(tables, ([4, 4, 4, 0], [1] * 4, [0], [7]))
+        for at in range(4):
+            for other in tables[at][1:], tables[at] + [9]:
+                wrong = [*tables[:at], other, *tables[at + 1 :]]
+                kept = [each[:] for each in wrong]
+                self.assertEqual(calls.answer("profile", [g, *wrong]), [7] + [0] * 5)
+                self.assertEqual(wrong, kept)
+
     def test_spare_bits_stay(self):
         first, empty = [1 << 4] * 4, [1 << 4]
         self.assertEqual(calls.answer("first_visit", [G1, 1, first, empty]), [0, 1])

@@ -1,6 +1,7 @@
 #!/usr/bin/env python3
 """Tests of plain.py: document 01's lines, the examples' reports, the refusals, and small random grammars held to the
 definitions by search. Run alone, or with the others of this folder: python3 -m unittest discover -s tools"""
+import collections
 import itertools
 import pathlib
 import random
@@ -39,9 +40,9 @@ def refused(call, *words):
     return 0
 
 
-def forms(g, r, longest):
-    """All forms of at most that length that a rule derives in one step or more through such forms."""
-    todo, held = [(RULE + r,)], set()
+def derived(g, form, longest):
+    """All forms of at most that length that a form derives in one step or more through such forms."""
+    todo, held = [form], set()
     while todo:
         form = todo.pop()
         for k, s in enumerate(form):
@@ -51,6 +52,11 @@ def forms(g, r, longest):
                     held.add(made)
                     todo.append(made)
     return held
+
+
+def forms(g, r, longest):
+    """Those that a rule derives."""
+    return derived(g, (RULE + r,), longest)
 
 
 def sentence_costs(g, cap):
@@ -128,6 +134,29 @@ def standing(g, longest):
             if a >= RULE and t < RULE:
                 held[a - RULE].add(t)
     return held
+
+
+def taken_by(g, p, follow, longest):
+    """By forms of at most that length: the tokens that a production may start with, FOLLOW of its owner added where it
+    can vanish, and whether it can."""
+    made = {tuple(g.body(p)), *derived(g, tuple(g.body(p)), longest)}
+    tokens = {form[0] for form in made if form and form[0] < RULE}
+    return tokens | (follow[g.owners[p]] if () in made else set()), () in made
+
+
+def clashes(g, longest):
+    """Every clash of the grammar: rule, lower production, higher production, token, or T where two vanish and share
+    none."""
+    follow = standing(g, longest)
+    taken = [taken_by(g, p, follow, longest) for p in range(len(g.owners))]
+    found = set()
+    for p, q in itertools.combinations(range(len(g.owners)), 2):
+        if g.owners[p] != g.owners[q]:
+            continue
+        shared = taken[p][0] & taken[q][0]
+        none = {len(g.costs)} if taken[p][1] and taken[q][1] and not shared else set()
+        found |= {(g.owners[p], p, q, t) for t in shared | none}
+    return found
 
 
 def settled(g, dice, visit, *tables):
@@ -331,6 +360,50 @@ class Plain(unittest.TestCase):
         for changed, held in (True, [{2}, {1, 2}, {2}]), (True, [{2}, {1, 2}, {1, 2}]), (False, [{2}, {1, 2}, {1, 2}]):
             self.assertEqual(plain.visit_follow(g, 2, 1, follow, first, empty, {0, 1, 2}), changed)
             self.assertEqual(follow, held)
+
+    def test_profile_of_the_examples(self):
+        verdicts = {
+            "g3": (1, 1, 2, 0), "sheets": (3, 3, 4, 0), "rows": (6, 10, 11, 2), "climate": (3, 41, 42, 0),
+            "load": (3, 3, 4, 0), "one-comma": (3, 3, 4, 1),
+        }
+        for path in sorted(EXAMPLES.glob("*.blk")):
+            with self.subTest(path.name):
+                self.assertEqual(plain.profile(plain.read(path.read_bytes())), verdicts.get(path.stem))
+
+    def test_order_of_clashes(self):
+        A, E = RULE + 1, RULE + 2
+        # productions 0 and 5 before 1 and 2, whatever their tokens
+        for tokens in [0, 1, 1, 2, 3, 0], [3, 0, 0, 1, 2, 3]:
+            g = Grammar(2, [1] * 6 + [0], list(range(8)), tokens + [A], [1] * 5)
+            self.assertEqual(plain.profile(g), (1, 0, 5, tokens[0]))
+        # start: A; start: A; A: a; A: a: rule 0 is the least
+        g = Grammar(2, [0, 0, 1, 1], [0, 1, 2, 3, 4], [A, A, 0, 0], [1, 1])
+        self.assertEqual(plain.profile(g), (0, 0, 1, 0))
+        # start: A; A: E; A: nothing; A: a; E: a; E: nothing: eof of the first two, then a of the first and third
+        g = Grammar(3, [0, 1, 1, 1, 2, 2], [0, 1, 2, 2, 3, 4, 4], [A, E, 0, 0], [1, 1])
+        self.assertEqual(plain.profile(g), (1, 1, 2, 1))
+
+    def test_two_that_vanish(self):
+        # start: S; S: a; U: nothing twice. U is dead, so they share none
+        g = Grammar(3, [0, 1, 2, 2], [0, 1, 2, 2, 2], [RULE + 1, 0], [1, 1])
+        self.assertEqual(plain.profile(g), (2, 2, 3, 2))
+        # with U an export eof follows it
+        self.assertEqual(plain.profile(exported(g, [RULE + 2])), (2, 2, 3, 1))
+        # start: A; A: nothing twice: the token is eof, also where it is the only one
+        for T in 1, 32, 33, 512:
+            g = Grammar(2, [0, 1, 1], [0, 1, 1, 1], [RULE + 1], [1] * T)
+            self.assertEqual(plain.profile(g), (1, 1, 2, T - 1))
+        self.assertEqual(refused(plain.profile, g._replace(rules=3)), 4)
+
+    def test_random_profiles_against_forms(self):
+        dice, seen = random.Random(5), collections.Counter()
+        for k in range(200):
+            g = random_grammar(dice)
+            with self.subTest(f"{k}: {g}"):
+                found = plain.profile(g)
+                self.assertEqual(found, min(clashes(g, 6), default=None))
+                seen["passes" if found is None else "T" if found.token == len(g.costs) else "token"] += 1
+        self.assertEqual(set(seen), {"passes", "T", "token"})
 
     def test_random_sentences(self):
         dice = random.Random(2)

@@ -40,6 +40,14 @@ def said(found):
     return "".join(f" {each}" for each in found)
 
 
+def verdict(found):
+    """What is printed of the profile's values, or of its refusal."""
+    if len(found) == 1:
+        return said(found)
+    clash, *named = found
+    return f" clash{said(named)}" if clash else " passes"
+
+
 def put(file, changes):
     """Numbers of two bytes at these places."""
     for at, number in zip(changes[::2], changes[1::2], strict=True):
@@ -110,6 +118,8 @@ class Case:
             return self.read(given)
         if name == "write_blocks":
             return self.write(*given)
+        if name == "profile":
+            return verdict(self.called(name, given))
         if name.endswith("_visit"):
             before, prods = (given[:1], given[1:]) if name == "follow_visit" else ([], given)
             return shown([word for p in prods for word in self.called(name, [*before, p])])

@@ -1,8 +1,8 @@
 /* Document 01 once more in C, with the file writer, the versions, the several exports, the reached rules, the lists of
- * cheapest sentences, the dear entries and the slices of document 02, plain and slow, to compare the library with. It
- * is written from those texts, with the readings of their open points in docs/DECISIONS.md, and from no crate; but the
- * slices' crate had been read before. A call names an exported function and holds what it is lent; `model` makes the
- * call on those lists. */
+ * cheapest sentences, the dear entries, the slices and the profile of document 02, plain and slow, to compare the
+ * library with. It is written from those texts, with the readings of their open points in docs/DECISIONS.md, and from
+ * no crate; but the slices' crate had been read before. A call names an exported function and holds what it is lent;
+ * `model` makes the call on those lists. */
 #include <stddef.h>
 #include <stdint.h>
 #include <string.h>
@@ -38,6 +38,7 @@ typedef enum {
     FOLLOW_CLEAR,
     FOLLOW_VISIT,
     FOLLOW_FILL,
+    PROFILE,
     SLICE,
     MIN_SENTENCE,
     COUNT_MIN_SENTENCES,
@@ -49,8 +50,9 @@ typedef enum {
 /* The tables that a call is lent, in order: T a row of tokens a rule, E one row of rules, C a number a rule. A slice is
  * lent FIRST, EMPTY, FOLLOW, PRODUCTIVE, COST and the reached row. */
 enum { TABLES = 6 };
-static const char *const tables_of[OPS] = {"",  "",  "T", "E", "TE", "TE",   "TE",   "",       "E",  "E",   "E",   "C",
-                                           "C", "C", "C", "E", "T",  "TTEE", "TTEE", "TETECE", "CC", "CCC", "CCC", ""};
+static const char *const tables_of[OPS] = {
+    "",  "",  "T", "E", "TE",   "TE",   "TE",   "",       "E",  "E",   "E",   "C", "C",
+    "C", "C", "E", "T", "TTEE", "TTEE", "TTEE", "TETECE", "CC", "CCC", "CCC", ""};
 
 /* What a job fills, and the tables of a slice that are of each kind, in the order of that kind's own calls. */
 enum { JOB_FIRST, JOB_FOLLOW_1, JOB_FOLLOW_2, JOB_PRODUCTIVE, JOB_COST, KINDS };
@@ -283,6 +285,51 @@ static void fill_follow(const grammar *g, int mode, uint32_t *follow, uint32_t *
         again = 0;
         for (size_t p = 0; p < g->prods; p++) again |= visit_follow(g, p, mode, follow, first, empty, reached);
     }
+}
+
+/* Sets the row to the tokens by which a reader takes production p: those that it may start with, and FOLLOW of its
+ * owner where it can vanish; answers whether it can. The tables are those that FOLLOW's fill leaves. */
+static int taken_by(const grammar *g, size_t p, uint32_t *const *tables, uint32_t *row) {
+    const uint32_t *follow = tables[0], *first = tables[1], *empty = tables[2];
+    size_t w = width(g), i = g->starts[p], end = g->starts[p + 1];
+    clear(row, w, 0);
+    for (; i < end && g->symbols[i] >= RULE; i++) {
+        join(row, first + (g->symbols[i] - RULE) * w, g->tokens);
+        if (!marked(empty, g->symbols[i] - RULE)) return 0;
+    }
+    if (i < end)
+        mark(row, g->symbols[i]);
+    else
+        join(row, follow + g->owners[p] * w, g->tokens);
+    return i == end;
+}
+
+/* The token by which two productions clash: the least that they share, else T if both vanish. T+1 if they do not. */
+static size_t clash_by(const grammar *g, size_t p, size_t q, uint32_t *const *tables) {
+    uint32_t of_p[16], of_q[16];
+    int both = taken_by(g, p, tables, of_p) & taken_by(g, q, tables, of_q);
+    for (size_t t = 0; t < g->tokens; t++)
+        if (marked(of_p, t) && marked(of_q, t)) return t;
+    return both ? g->tokens : g->tokens + 1;
+}
+
+/* The lowest production above p of the same rule that clashes with it; the number of productions if there is none. */
+static size_t clashing(const grammar *g, size_t p, uint32_t *const *tables) {
+    size_t q = p + 1;
+    while (q < g->prods && (g->owners[q] != g->owners[p] || clash_by(g, p, q, tables) > g->tokens)) q++;
+    return q;
+}
+
+/* The profile, over the tables that FOLLOW's fill leaves: the first clash by rule, lower and higher production. */
+static result profile(const grammar *g, uint32_t *const *tables) {
+    for (size_t r = 0; r < g->rules; r++)
+        for (size_t p = 0; p < g->prods; p++) {
+            size_t q = g->owners[p] == r ? clashing(g, p, tables) : g->prods;
+            if (q == g->prods) continue;
+            result named = {0, {1, (uint32_t)r, (uint32_t)p, (uint32_t)q, (uint32_t)clash_by(g, p, q, tables)}};
+            return named;
+        }
+    return answered(0);
 }
 
 /* A rule's lowest-numbered production whose cost equals the rule's; the number of productions if it has no cost. */
@@ -629,6 +676,9 @@ static result model(call *c) {
     case FOLLOW_FILL:
         fill_follow(g, c->mode, a, b, d, e);
         return r;
+    case PROFILE:
+        fill_follow(g, 2, a, b, d, e);
+        return profile(g, c->table);
     case SLICE:
         return slice(c);
     case MIN_SENTENCE:

@@ -193,7 +193,21 @@ static void say_stretch(boltmarrow_stretch s) {
         printf(" %u %u", s.from, s.len);
 }
 
-#define SAY(answer) _Generic((answer), boltmarrow_answer: say_answer, boltmarrow_stretch: say_stretch)(answer)
+/* A clash is 0 or 1, and beside a pass and a refusal none is named. */
+static void say_verdict(boltmarrow_verdict v) {
+    int named = v.rule || v.lower || v.higher || v.token;
+    if (v.clash > 1 || (v.clash && v.refusal) || (named && !v.clash)) fail("its answer is no verdict", line);
+    if (v.refusal)
+        printf(" refused %u", v.refusal);
+    else if (v.clash)
+        printf(" clash %u %u %u %u", v.rule, v.lower, v.higher, v.token);
+    else
+        printf(" passes");
+}
+
+#define SAY(answer)                                                                                                    \
+    _Generic((answer), boltmarrow_answer: say_answer, boltmarrow_stretch: say_stretch,                                 \
+             boltmarrow_verdict: say_verdict)(answer)
 
 /* The calls on a grammar, a line each: ONE has so many numbers in its brackets, WIDE too, and the last of these has 32
  * bits; EACH is made for every number behind the first so many. */
@@ -227,6 +241,7 @@ static void say_stretch(boltmarrow_stretch s) {
     ONE(follow_clear, 0, G, T(A))                                                                                      \
     EACH(follow_visit, 1, G, N(0), PROD(i), T(A), T(B), T(C), T(D))                                                    \
     ONE(follow_fill, 1, G, N(0), T(A), T(B), T(C), T(D))                                                               \
+    ONE(profile, 0, G, T(A), T(B), T(C), T(D))                                                                         \
     ONE(min_sentence, 1, G, RULE(0), T(A), T(B), LIST(uint16_t, OUT))                                                  \
     ONE(count_min_sentences, 1, G, RULE(0), T(A), T(B), T(C))                                                          \
     WIDE(min_sentence_at, 2, G, RULE(0), K(1), T(A), T(B), T(C), LIST(uint16_t, OUT))

@@ -74,8 +74,8 @@ static const char *const names[OPS] = {
     "check",        "production",       "mark",             "rule_mark",       "first_clear",
     "first_visit",  "first_fill",       "has_path",         "productive_clear", "productive_visit",
     "productive_fill", "cost_clear",    "cost_visit",       "cost_fill",       "min_sentence_cost",
-    "reached_fill", "follow_clear",     "follow_visit",     "follow_fill",     "slice",
-    "min_sentence", "count_min_sentences", "min_sentence_at", "write_blocks"};
+    "reached_fill", "follow_clear",     "follow_visit",     "follow_fill",     "profile",
+    "slice",        "min_sentence",     "count_min_sentences", "min_sentence_at", "write_blocks"};
 
 static result pack(boltmarrow_answer a) {
     result r = {a.refusal, {a.value}};
@@ -84,6 +84,11 @@ static result pack(boltmarrow_answer a) {
 
 static result stretch(boltmarrow_stretch s) {
     result r = {s.refusal, {s.from, s.len}};
+    return r;
+}
+
+static result verdict(boltmarrow_verdict v) {
+    result r = {v.refusal, {v.clash, v.rule, v.lower, v.higher, v.token}};
     return r;
 }
 
@@ -162,6 +167,8 @@ static result library(const call *c, copies l) {
         return pack(boltmarrow_follow_visit(G, c->mode, prod, T(0), T(1), T(2), T(3)));
     case FOLLOW_FILL:
         return pack(boltmarrow_follow_fill(G, c->mode, T(0), T(1), T(2), T(3)));
+    case PROFILE:
+        return verdict(boltmarrow_profile(G, T(0), T(1), T(2), T(3)));
     case SLICE:
         return pack(boltmarrow_slice(l.job, G, c->n, T(0), T(1), T(2), T(3), T(4), T(5)));
     case MIN_SENTENCE:
@@ -383,6 +390,33 @@ static void reached_is(uint32_t bits) {
     }
 }
 
+/* The profile of the grammar at hand. It leaves its tables as FOLLOW's fill of mode 2 does. */
+static result profiled(void) {
+    enum { OWN = 4 };
+    static uint32_t left[OWN][512 * 16];
+    call c = make(PROFILE);
+    result r = run(&c);
+    for (int i = 0; i < OWN; i++) memcpy(left[i], words[i], 4 * c.table_len[i]);
+    expect("profile's refusal", r.refusal, 0);
+    fill(FOLLOW_FILL, 2);
+    for (int i = 0; i < OWN; i++) expect("profile's tables", memcmp(left[i], words[i], 4 * c.table_len[i]) == 0, 1);
+    return r;
+}
+
+static void passes(void) {
+    result r = profiled();
+    for (int i = 0; i < 5; i++) expect("a profile that passes", r.field[i], 0);
+}
+
+static void clash_is(uint32_t rule, uint32_t lower, uint32_t higher, uint32_t token) {
+    result r = profiled();
+    expect("a profile that clashes", r.field[0], 1);
+    expect("the rule of a clash", r.field[1], rule);
+    expect("its lower production", r.field[2], lower);
+    expect("its higher production", r.field[3], higher);
+    expect("its token", r.field[4], token);
+}
+
 static void first_is(uint16_t rule, uint32_t bits) {
     fill(FIRST_FILL, 0);
     expect("FIRST", row(rule), bits);
@@ -581,6 +615,7 @@ static void g1(void) {
     static const uint16_t order[] = {5, 0, 1, 2, 3, 4};
     begin_g1();
     jobs();
+    passes();
     call c = make(CHECK);
     expect("G1 check", run(&c).refusal, 0);
     for (uint16_t r = 0; r < 4; r++) {
@@ -619,6 +654,7 @@ static void g2_to_g6(void) {
     prod(3, NULL, 0);
     follow_is(1, 2, 2);
     follow_is(2, 2, 6);
+    passes();
     jobs();
 
     begin(2, 2, 1);
@@ -631,6 +667,7 @@ static void g2_to_g6(void) {
     path_is(1, 1, 1);
     path_is(0, 0, 0);
     path_is(0, 1, 1);
+    clash_is(1, 1, 2, 0);
     jobs();
 
     begin(2, 2, 1);
@@ -639,6 +676,7 @@ static void g2_to_g6(void) {
     first_is(1, 0);
     cost_is(1, 12, 0);
     sentence_is(1, 100, 12, 0);
+    passes();
     jobs();
 
     for (int which = 0; which < 3; which++) {
@@ -651,6 +689,7 @@ static void g2_to_g6(void) {
         cost_is(1, which == 1 ? 13 : 0, which == 0 ? 65535 : which == 1 ? 0 : 1);
         sentence_is(1, 300, which == 1 ? 13 : 0, which == 0 ? 257 : which == 1 ? 0 : 1);
         sentence_is(1, 256, which == 0 ? 15 : which == 1 ? 13 : 0, which == 2);
+        passes();
         jobs();
     }
 
@@ -661,6 +700,7 @@ static void g2_to_g6(void) {
     cost_is(1, 0, 1);
     sentence_is(1, 100, 0, 1);
     expect("G6 sentence", output[0], 1);
+    passes();
     jobs();
 }
 
@@ -684,6 +724,7 @@ static void dear_and_unknown(void) {
     add(R(3)), end(1);
     for (int i = 0; i < 257; i++) add(0);
     end(1), PROD(2, 0), PROD(3, 0);
+    clash_is(1, 1, 2, 0);
     jobs();
     for (int i = 0; i < 5; i++) {
         uint32_t u = unknowns[i];
@@ -723,6 +764,7 @@ static void exports(void) {
     static const uint32_t first[] = {3, 1, 2, 4, 8}, cost[] = {3, 5, 3, 1, 0}, length[] = {2, 3, 2, 1, 0};
     static const uint32_t follow[2][5] = {{32, 32, 32, 40, 16}, {32, 32, 32, 56, 16}};
     begin_exports();
+    passes();
     jobs();
     call c = make(CHECK);
     expect("exports: check", run(&c).refusal, 0);
@@ -747,6 +789,7 @@ static void exports(void) {
     c = make(CHECK);
     expect("the same export twice", run(&c).refusal, 0);
     cost_is(0, 0, 5);
+    clash_is(0, 0, 6, 0);
     jobs();
     /* all productions but one are rule 0's */
     begin(2, 2, 1);
@@ -755,6 +798,7 @@ static void exports(void) {
     first_is(0, 1);
     follow_is(2, 1, 2);
     sentence_is(0, 1, 0, 1);
+    clash_is(0, 0, 1, 0);
     jobs();
 }
 
@@ -783,6 +827,7 @@ static void dead_visit(uint16_t mode, uint16_t prod, uint32_t reached, uint32_t 
 static void dead(void) {
     static const uint32_t follow[2][4] = {{4, 4, 6, 0}, {4, 4, 4, 0}};
     begin_dead();
+    passes();
     jobs();
     reached_is(7);
     for (uint16_t r = 0; r < 4; r++) {
@@ -811,12 +856,14 @@ static void dead(void) {
     reached_is(15);
     follow_is(2, 2, 6);
     follow_is(2, 3, 4);
+    clash_is(0, 0, 4, 0);
     jobs();
     /* a ring of dead rules that holds a reached one: start: A; A: a; B: C A; C: B */
     begin(4, 2, 1), PROD(0, R(1)), PROD(1, 0), PROD(2, R(3), R(1)), PROD(3, R(2));
     reached_is(3);
     follow_is(2, 1, 2);
     follow_is(2, 2, 0);
+    passes();
     jobs();
 }
 
@@ -833,6 +880,7 @@ static void lengths(void) {
     sentence_is(18, 100000, 0, 65535);
     sentence_is(1, 100000, 15, 0);
     expect("length", words[1][1], BOLTMARROW_LENGTH_LONG);
+    passes();
     jobs();
 
     begin(61, 1, 0);
@@ -840,6 +888,7 @@ static void lengths(void) {
     for (uint16_t r = 1; r < 60; r++) PROD(r, R(r + 1), R(r + 1));
     prod(60, NULL, 0);
     sentence_is(0, 0, 0, 0);
+    passes();
     jobs();
     for (uint16_t rules = 512; rules < 514; rules++) {
         begin(rules, 512, 1);
@@ -849,8 +898,72 @@ static void lengths(void) {
             call c = make((op)o);
             expect("R", run(&c).refusal, rules == 513);
         }
-        if (rules == 512) jobs();
+        if (rules == 512) passes(), jobs();
     }
+}
+
+/* The least clash by rule, lower production, higher production, token. */
+static void profile_orders(void) {
+    /* A: a; A: b; A: b; A: c; A: d; A: a; start: A: 0 and 5 before 1 and 2, whatever their tokens */
+    begin(2, 5, 1), PROD(1, 0), PROD(1, 1), PROD(1, 1), PROD(1, 2), PROD(1, 3), PROD(1, 0), PROD(0, R(1));
+    clash_is(1, 0, 5, 0);
+    begin(2, 5, 1), PROD(1, 3), PROD(1, 0), PROD(1, 0), PROD(1, 1), PROD(1, 2), PROD(1, 3), PROD(0, R(1));
+    clash_is(1, 0, 5, 3);
+    /* A: X; A: c; A: b; A: a; X: a; X: b; start: A: 0 and 2 by b before 0 and 3 by a */
+    begin(3, 4, 1), PROD(1, R(2)), PROD(1, 2), PROD(1, 1), PROD(1, 0), PROD(2, 0), PROD(2, 1), PROD(0, R(1));
+    clash_is(1, 0, 2, 1);
+    /* B: a; B: a; A: b; A: b; S: A B; start: S: the least rule, though its productions come later */
+    begin(4, 3, 1), PROD(3, 0), PROD(3, 0), PROD(2, 1), PROD(2, 1), PROD(1, R(2), R(3)), PROD(0, R(1));
+    clash_is(2, 2, 3, 1);
+    /* A: a; B: a; B: b; A: b; start: A; A: b: other rules' productions between, B dead */
+    begin(3, 3, 1), PROD(1, 0), PROD(2, 0), PROD(2, 1), PROD(1, 1), PROD(0, R(1)), PROD(1, 1);
+    clash_is(1, 3, 5, 1);
+    /* A: X; A: Y; X: c, b or a; Y: b or c: the least of the tokens shared */
+    begin(4, 4, 1), PROD(0, R(1)), PROD(1, R(2)), PROD(1, R(3));
+    PROD(2, 2), PROD(2, 1), PROD(2, 0), PROD(3, 1), PROD(3, 2), clash_is(1, 1, 2, 1);
+}
+
+/* Productions that vanish: FOLLOW of the owner is added, and two of them clash. */
+static void profile_vanishing(void) {
+    /* S: A b; A: b; A: nothing; with c behind A it passes */
+    begin(3, 3, 1), PROD(0, R(1)), PROD(1, R(2), 0), PROD(2, 0), prod(2, NULL, 0), clash_is(2, 2, 3, 0);
+    symbols[2] = 1, passes();
+    /* S: a; U: nothing; U: b; W: U b: b follows U only where W is an export */
+    begin(4, 3, 1), PROD(0, R(1)), PROD(1, 0), prod(2, NULL, 0), PROD(2, 1), PROD(3, R(2), 1), passes();
+    PROD(0, R(3)), clash_is(2, 2, 3, 1);
+    /* S: A B c; A: c; A: nothing; B: b; B: nothing: c follows A past B, which the crate's mode does not see */
+    begin(4, 3, 1), PROD(0, R(1)), PROD(1, R(2), R(3), 1), PROD(2, 1), prod(2, NULL, 0), PROD(3, 0), prod(3, NULL, 0);
+    clash_is(2, 2, 3, 1);
+    /* S: A B; A: nothing twice; B: B: A is reached and nothing follows it, so T is named */
+    begin(4, 1, 1), PROD(0, R(1)), PROD(1, R(2), R(3)), prod(2, NULL, 0), prod(2, NULL, 0), PROD(3, R(3));
+    clash_is(2, 2, 3, 1);
+    /* S: a; dead U: E; U: nothing; U: a; E: a; E: nothing: T of the first two before a of the first and third */
+    begin(4, 2, 1), PROD(0, R(1)), PROD(1, 0), PROD(2, R(3)), prod(2, NULL, 0), PROD(2, 0);
+    PROD(3, 0), prod(3, NULL, 0), clash_is(2, 2, 3, 2);
+    /* the same with U in the place of S: they share eof */
+    symbols[0] = R(2), clash_is(2, 2, 3, 1);
+}
+
+/* T around the bits of a word: nothing twice, in a dead rule and in the start's; then a production for each token. */
+static void profile_tokens(void) {
+    static const uint16_t some[] = {1, 2, 31, 32, 33, 63, 64, 65, 512};
+    for (int i = 0; i < 9; i++) {
+        uint16_t tokens = some[i];
+        begin(3, tokens, 1), PROD(0, R(1)), prod(1, NULL, 0), prod(2, NULL, 0), prod(2, NULL, 0);
+        clash_is(2, 2, 3, tokens);
+        symbols[0] = R(2), clash_is(2, 2, 3, tokens - 1u);
+        if (tokens == 1) continue;
+        begin(2, tokens, 1), PROD(0, R(1));
+        for (uint16_t t = 0; t + 1 < tokens; t++) PROD(1, t);
+        prod(1, NULL, 0), passes();
+        PROD(1, tokens - 2), clash_is(1, tokens - 1u, tokens + 1u, tokens - 2u);
+    }
+    /* the most rules and productions: rules 1 to 511 are tokens 0 to 7, the last one 8 to 14 too */
+    begin(512, 16, 1), PROD(0, R(1));
+    for (uint16_t p = 0; p < 8 * 511; p++) PROD((uint16_t)(1 + p % 511), (uint16_t)(p / 511));
+    for (uint16_t t = 8; t < 15; t++) PROD(511, t);
+    passes();
+    symbols[4095] = 0, clash_is(511, 511, 4095, 0);
 }
 
 /* Lists of all cheapest sentences; tokens cost 1 where nothing is said. */
@@ -1425,6 +1538,44 @@ static void random_jobs(int grammars) {
     }
     limits();
     jobs();
+    profiled();
+}
+
+/* A well-formed grammar in which most productions start with a token that is their rule's own; some vanish, some start
+ * with a rule, and in some grammars rule 0 owns two productions or a rule is dead. */
+static void random_reader(void) {
+    static const size_t some[] = {8, 20, 31, 32, 33, 64, 65};
+    uint16_t rules = (uint16_t)(3 + below(5)), count = (uint16_t)(rules * (1 + below(6)));
+    begin(rules, some[below(7)], 1);
+    PROD(0, (uint16_t)R(1 + below(rules - 1u)));
+    if (below(3) == 0) PROD(0, (uint16_t)R(1 + below(rules - 1u)));
+    for (uint16_t p = 0; p < count; p++) {
+        uint16_t owner = (uint16_t)(1 + p % (rules - 1)), token = (uint16_t)(p * 5 % (g.tokens - 1));
+        uint32_t how = below(20);
+        if (how == 1) add((uint16_t)R(1 + below(rules - 1u)));
+        if (how > 0) add(how == 2 ? (uint16_t)below((uint32_t)g.tokens - 1) : token);
+        if (below(2)) add((uint16_t)(below(2) ? below((uint32_t)g.tokens - 1) : R(1 + below(rules - 1u))));
+        end(owner);
+    }
+}
+
+/* The profile of random grammars: many pass, many clash, and in some T is named. */
+static void random_profiles(int grammars) {
+    int pass = 0, clash = 0, none_shared = 0;
+    for (int n = 0; n < grammars; n++) {
+        if (n % 2)
+            random_reader();
+        else
+            random_grammar();
+        if (check_of(&g)) continue;
+        result r = profiled();
+        pass += r.field[0] == 0;
+        clash += r.field[0] == 1;
+        none_shared += r.field[0] == 1 && r.field[4] == g.tokens;
+    }
+    expect("profiles that pass", pass > grammars / 8, 1);
+    expect("profiles that clash", clash > grammars / 8, 1);
+    expect("profiles that name T", none_shared > 0, 1);
 }
 
 int main(void) {
@@ -1435,6 +1586,9 @@ int main(void) {
     dear_and_unknown();
     dead();
     lengths();
+    profile_orders();
+    profile_vanishing();
+    profile_tokens();
     lists_of_rules();
     long_lists();
     bad_grammars();
@@ -1448,6 +1602,7 @@ int main(void) {
     writer_versions();
     random_calls(4000);
     random_jobs(100);
+    random_profiles(1000);
     printf("test: %lu calls, %lu checks, %lu wrong\n", calls, checks, wrong);
     return wrong != 0;
 }

@@ -1,5 +1,5 @@
 /* Boltmarrow: FIRST, EMPTY, FOLLOW, paths, minimum costs and the cheapest sentences of a flat
- * grammar.
+ * grammar, and whether one token is enough to read it.
  *
  * A grammar is R rules (`rules`); owners (P numbers); starts (P+1 numbers); symbols (N numbers);
  * token costs (T bytes). P, N and T are the lists' lengths. Production p is symbols starts[p] up
@@ -35,8 +35,9 @@
  * Stack. boltmarrow_min_sentence takes up to 110 KB: 208 bytes for each level of rules in rules, of
  * which there are at most 512. boltmarrow_count_min_sentences takes up to 170 KB, 276 bytes a level,
  * and boltmarrow_min_sentence_at up to 280 KB, 512 bytes a level. boltmarrow_has_path,
- * boltmarrow_reached_fill and boltmarrow_follow_fill take 12 KB, boltmarrow_slice takes 1.25 KB, every
- * other call at most 1 KB. No call takes other memory than its stack and its lists.
+ * boltmarrow_reached_fill and boltmarrow_follow_fill take 12 KB, boltmarrow_profile 47 KB,
+ * boltmarrow_slice takes 1.25 KB, every other call at most 1 KB. No call takes other memory than its
+ * stack and its lists.
  *
  * Refusals:
  *   1  R, T, P or N outside its limits (R 2..512, T 1..512, P 2..4096, N 1..16384)
@@ -113,6 +114,19 @@ typedef struct {
     uint32_t symbols;
     uint32_t version;
 } boltmarrow_counts;
+
+/* what the profile says: clash is 0 where the grammar passes, 1 where it clashes; then rule, lower,
+ * higher and token name the least clash, two productions of a rule by their numbers and a token that
+ * they share, or T, the number of tokens, where both can vanish and they share none. All are 0 where
+ * it passes and beside a refusal. */
+typedef struct {
+    uint32_t refusal;
+    uint32_t clash;
+    uint32_t rule;
+    uint32_t lower;
+    uint32_t higher;
+    uint32_t token;
+} boltmarrow_verdict;
 
 /* a job, which fills a table by slices: what it fills (one of the kinds below), the production that
  * the next visit is of, whether this round over the productions changed anything, and whether the job
@@ -223,6 +237,18 @@ boltmarrow_answer boltmarrow_follow_fill(BOLTMARROW_GRAMMAR, uint16_t mode, uint
                                          size_t follow_len, uint32_t *first, size_t first_len,
                                          uint32_t *empty, size_t empty_len, uint32_t *reached,
                                          size_t reached_len);
+
+/* The profile: whether a reader can decide by the next token which production of a rule to take. A
+ * grammar passes where no two productions of one rule share a token, and at most one of a rule's can
+ * vanish (derive the form of no symbols). A production's tokens are those that it may start with, and
+ * FOLLOW of its owner in mode 2 where it can vanish. All rules take part: rule 0, and dead ones too,
+ * which nothing follows. Otherwise the grammar clashes, and the least clash is named: by rule, lower
+ * production, higher production, token. The tables are filled, passes or clashes, as
+ * boltmarrow_follow_fill fills them in mode 2, whatever was there. Refusals 1 to 7; 7 is for each of
+ * the four tables. */
+boltmarrow_verdict boltmarrow_profile(BOLTMARROW_GRAMMAR, uint32_t *follow, size_t follow_len,
+                                      uint32_t *first, size_t first_len, uint32_t *empty,
+                                      size_t empty_len, uint32_t *reached, size_t reached_len);
 
 /* A slice of a job: n visits of its kind, from its next production on, rising, and from 0 again behind
  * the last; fewer only where the job is done or becomes so. The answer is how many were made, and the

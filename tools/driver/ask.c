@@ -1,8 +1,8 @@
 /* Asks the library about flat grammars: standard input has one a line, and standard output a line of JSON for each.
  * Both have the form of tools/oracle/oracle.rs, with these differences: "costs" has an outcome for each rule,
- * "corrected" is FOLLOW of mode 2, "reached" the reached row, "counts" has an outcome for each rule, how many cheapest
- * sentences it has, and an outcome is {"returned": [number..]} or {"refused": number}. A refused grammar has the outcome
- * of boltmarrow_check alone.
+ * "corrected" is FOLLOW of mode 2, "reached" the reached row, "profile" the five numbers of the verdict, "counts" has
+ * an outcome for each rule, how many cheapest sentences it has, and an outcome is {"returned": [number..]} or
+ * {"refused": number}. A refused grammar has the outcome of boltmarrow_check alone.
  */
 #include <stdio.h>
 
@@ -95,6 +95,11 @@ static void print_row(const char *name, const uint32_t *row) {
     for (uint16_t r = 0; r < rules; r++)
         printf("%s%u", comma(r), boltmarrow_rule_mark(GRAMMAR, row, ROW, RIDX(r)).value);
     printf("],");
+}
+
+static void print_profile(void) {
+    boltmarrow_verdict v = boltmarrow_profile(GRAMMAR, follow, MARKS, first, MARKS, empty, ROW, reached, ROW);
+    printf("\"profile\":[%u,%u,%u,%u,%u],", v.clash, v.rule, v.lower, v.higher, v.token);
 }
 
 static void print_paths(void) {
@@ -209,6 +214,7 @@ static int answer(void) {
     print_follow("corrected", 2);
     boltmarrow_reached_fill(GRAMMAR, reached, ROW);
     print_row("reached", reached);
+    print_profile();
     print_paths();
     print_beyond();
     print_costs();

@@ -74,6 +74,12 @@ static void production(struct call *c) {
     c->answers = 3;
 }
 
+static void profile(struct call *c) {
+    boltmarrow_verdict said = boltmarrow_profile(GRAMMAR, WORDS(4), WORDS(5), WORDS(6), WORDS(7));
+    memcpy(c->answer, &said, sizeof said);
+    c->answers = 6;
+}
+
 static void read_blocks(struct call *c) {
     boltmarrow_counts said = boltmarrow_read_blocks(BYTES(0), HALVES(1), HALVES(2), HALVES(3), BYTES(4));
     memcpy(c->answer, &said, sizeof said);
@@ -104,6 +110,7 @@ static const struct {
     {follow_clear, "nhhhbw"},
     {follow_visit, "nhhhbnnwwww"},
     {follow_fill, "nhhhbnwwww"},
+    {profile, "nhhhbwwww"},
     {slice, "nhhhbhkwwwwww"},
     {min_sentence, "nhhhbnwwh"},
     {count_min_sentences, "nhhhbnwww"},

@@ -1,5 +1,5 @@
 use crate::jobs::Fills;
-use crate::sys::{self, Tables};
+use crate::sys::{self, Flat, Tables};
 use crate::table::{done, mark, tokens};
 use crate::{FirstTable, Firsts, Grammar, Job, PIdx, RIdx, Reached, Refusal, TIdx, Whole};
 
@@ -94,11 +94,24 @@ impl<'g> FollowTable<'g> {
     }
 
     pub(crate) fn filled(grammar: &'g Grammar, mode: Mode) -> Follows<'g> {
+        let (follows, answer) = Self::filled_by(grammar, mode, |flat, [follow, first, empty, reached]| {
+            sys::follow_fill(flat, mode as u16, follow, first, empty, reached)
+        });
+        done(answer);
+        follows
+    }
+
+    /// What a call leaves that fills FOLLOW, FIRST, EMPTY and the reached row, and its answer.
+    pub(crate) fn filled_by<A>(
+        grammar: &'g Grammar,
+        mode: Mode,
+        fill: impl FnOnce(Flat, [&mut [u32]; 4]) -> A,
+    ) -> (Follows<'g>, A) {
         let (mut follow, mut firsts) = (grammar.marks(), FirstTable::unfilled(grammar));
         let mut reached = Reached::unfilled(grammar);
-        let (first, empty) = (&mut firsts.first, &mut firsts.empty);
-        done(sys::follow_fill(grammar.flat(), mode as u16, &mut follow, first, empty, &mut reached.reached));
-        Follows(FollowTable { mode, follow, firsts: Firsts(firsts), reached })
+        let tables = [&mut follow[..], &mut firsts.first, &mut firsts.empty, &mut reached.reached];
+        let answer = fill(grammar.flat(), tables);
+        (Follows(FollowTable { mode, follow, firsts: Firsts(firsts), reached }), answer)
     }
 
     fn grammar(&self) -> &'g Grammar {

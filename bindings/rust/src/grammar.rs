@@ -4,7 +4,7 @@ use crate::sys::{self, Flat};
 use crate::table::words;
 use crate::{
     CostTable, Costs, FirstTable, Firsts, FollowTable, Follows, Job, Mode, PIdx, Productive, ProductiveTable, RIdx,
-    Reached, Refusal, SIdx, SentenceGenerator, Symbol, TIdx, Version,
+    Reached, Refusal, SIdx, SentenceGenerator, Symbol, TIdx, Verdict, Version,
 };
 
 /// The bytes of the largest block file: 98 blocks.
@@ -360,6 +360,41 @@ impl Grammar {
     /// gave.
     pub fn follow_job(&self, mode: Mode) -> Job<Follows<'_>> {
         self.firsts().follow_job(mode)
+    }
+
+    /// Whether a reader can decide by the next token: for each rule, which of its productions it is to take. If not,
+    /// the least clash, by rule, then lower production, higher production, token.
+    ///
+    /// Two productions of one rule clash where they share a token that both may start with. What a production may start
+    /// with is its FIRST and, where it can vanish, the corrected FOLLOW of its rule. Two that both can vanish clash in
+    /// any case. All rules take part, the start and dead ones too.
+    ///
+    /// ```
+    /// use boltmarrow::{Clash, Grammar, PIdx, RIdx, TIdx, Verdict};
+    ///
+    /// // Row: Num comma Num; Num: digits Frac; Frac: comma digits | nothing. Rules are 0 start, 1 Row, 2 Num, 3 Frac,
+    /// // tokens 0 digits, 1 comma, 2 eof: is a comma behind digits a decimal comma, or does it end the field?
+    /// let (owners, starts) = (vec![0, 1, 2, 3, 3], vec![0, 1, 4, 6, 8, 8]);
+    /// let mut symbols = vec![32769, 32770, 1, 32770, 0, 32771, 1, 0];
+    /// let grm = Grammar::new(4, owners.clone(), starts.clone(), symbols.clone(), vec![1; 3])?;
+    /// let clash = Clash { rule: RIdx(3), lower: PIdx(3), higher: PIdx(4), token: Some(TIdx(1)) };
+    /// assert_eq!(grm.profile(), Verdict::Clashes(clash));
+    /// assert_eq!(clash.to_string(), "rule 3: productions 3 and 4 can both start with token 1");
+    ///
+    /// // With a token of its own for the decimal comma, 2, the next token decides; eof is 3 then.
+    /// symbols[6] = 2;
+    /// let grm = Grammar::new(4, owners, starts, symbols, vec![1; 4])?;
+    /// assert_eq!(grm.profile(), Verdict::Passes);
+    /// # Ok::<(), boltmarrow::Refusal>(())
+    /// ```
+    pub fn profile(&self) -> Verdict {
+        self.profile_with_follows().0
+    }
+
+    /// What [`profile`](Self::profile) gives, and the tables that it was found by: FOLLOW, corrected, with FIRST, EMPTY
+    /// and the reached row. They say why two productions clash, and are what a reader is made from if none do.
+    pub fn profile_with_follows(&self) -> (Verdict, Follows<'_>) {
+        Verdict::found(self)
     }
 
     /// PRODUCTIVE: which rules have a sentence.

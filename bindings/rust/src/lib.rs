@@ -4,6 +4,7 @@
 //! A [`Grammar`] owns its flat tables and is checked once, when it is made. All else borrows it, with tables of the
 //! lengths that it needs. What can still be refused is a number that the grammar does not have, or a sentence that is
 //! not there: a [`Refusal`]. A [`Job`] fills a table in slices, for a program that has a screen to draw meanwhile.
+//! [`Grammar::profile`] tells whether a reader can decide by the next token.
 //!
 //! ```
 //! use boltmarrow::{Grammar, Mode, RIdx, TIdx};
@@ -31,6 +32,7 @@ mod follows;
 mod grammar;
 mod idx;
 mod jobs;
+mod profile;
 mod reached;
 mod refusal;
 mod sentences;
@@ -46,6 +48,7 @@ pub use follows::{FollowTable, Follows, Mode};
 pub use grammar::Grammar;
 pub use idx::{PIdx, RIdx, SIdx, Symbol, TIdx};
 pub use jobs::{Job, Whole};
+pub use profile::{Clash, Verdict};
 pub use reached::Reached;
 pub use refusal::Refusal;
 pub use sentences::{MinSentences, SentenceGenerator};

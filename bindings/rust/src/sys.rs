@@ -58,6 +58,19 @@ pub(crate) struct Counts {
     pub(crate) version: u32,
 }
 
+/// `boltmarrow_verdict`: whether the grammar clashes, 0 or 1, and its least clash; all 0 beside a pass and a refusal.
+/// The token is T where the two productions can vanish and share none.
+#[derive(Clone, Copy, Debug, Default, Eq, PartialEq)]
+#[repr(C)]
+pub(crate) struct Verdict {
+    refusal: u32,
+    pub(crate) clash: u32,
+    pub(crate) rule: u32,
+    pub(crate) lower: u32,
+    pub(crate) higher: u32,
+    pub(crate) token: u32,
+}
+
 /// `boltmarrow_job`: what it fills, the next production, whether this round changed anything, and whether it is done.
 #[derive(Clone, Copy, Debug, Eq, PartialEq)]
 #[repr(C)]
@@ -113,6 +126,13 @@ impl Counts {
     }
 }
 
+impl Verdict {
+    /// The verdict, unless the call was refused.
+    pub(crate) fn told(self) -> Result<Verdict, Refusal> {
+        Refusal::unless(self.refusal).map(|()| self)
+    }
+}
+
 /// Declares each call and its safe function. After the grammar the header's parameters come in four groups, each of
 /// which may be empty: numbers; lists that are written; lists that are read; numbers.
 macro_rules! exports {
@@ -164,6 +184,7 @@ exports! {
     boltmarrow_follow_clear = follow_clear(; follow: u32;;) -> Answer;
     boltmarrow_follow_visit = follow_visit(mode prod; follow: u32; first: u32, empty: u32, reached: u32;) -> Answer;
     boltmarrow_follow_fill = follow_fill(mode; follow: u32, first: u32, empty: u32, reached: u32;;) -> Answer;
+    boltmarrow_profile = profile(; follow: u32, first: u32, empty: u32, reached: u32;;) -> Verdict;
     boltmarrow_min_sentence = min_sentence(rule; cost: u32, lengths: u32, out: u16;;) -> Answer;
     boltmarrow_count_min_sentences = count_min_sentences(rule; cost: u32, lengths: u32, counts: u32;;) -> Answer;
     boltmarrow_write_blocks = write_blocks(version; out: u8;;) -> Answer;

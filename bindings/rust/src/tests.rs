@@ -96,7 +96,7 @@ fn holds_owners(grm: &Grammar) {
     }
 }
 
-fn examples() -> Vec<Grammar> {
+pub(crate) fn examples() -> Vec<Grammar> {
     let folder = Path::new(env!("CARGO_MANIFEST_DIR")).join("../../examples");
     let paths = fs::read_dir(folder).expect("examples/ is there").map(|entry| entry.unwrap().path());
     let files = paths.filter(|path| path.extension().map_or(false, |extension| extension == "blk"));
@@ -115,7 +115,7 @@ fn the_examples_are_read_as_the_library_answers() {
 }
 
 /// A generator with a fixed seed (xorshift).
-struct Random(u64);
+pub(crate) struct Random(pub(crate) u64);
 
 impl Random {
     fn next(&mut self) -> u32 {
@@ -125,7 +125,7 @@ impl Random {
         (self.0 >> 16) as u32
     }
 
-    fn below(&mut self, count: u16) -> u16 {
+    pub(crate) fn below(&mut self, count: u16) -> u16 {
         (self.next() % u32::from(count)) as u16
     }
 
@@ -145,9 +145,14 @@ impl Random {
         }
     }
 
-    /// A grammar of so many rules and tokens, its productions in any order; rule 0 owns one or more.
+    /// A grammar of so many rules and tokens, with up to rules + 20 productions more than rules.
     fn grammar(&mut self, rules: u16, tokens: u16) -> Grammar {
         let more = self.below(rules + 20);
+        self.grammar_of(rules, tokens, more)
+    }
+
+    /// A grammar of so many rules, tokens and productions more than rules, these in any order; rule 0 owns one or more.
+    pub(crate) fn grammar_of(&mut self, rules: u16, tokens: u16, more: u16) -> Grammar {
         let mut owners: Vec<u16> = (0..rules).collect();
         owners.extend((0..more).map(|_| if self.below(8) == 0 { 0 } else { 1 + self.below(rules - 1) }));
         for last in (1..owners.len()).rev() {
@@ -168,7 +173,7 @@ impl Random {
 }
 
 /// Counts around each end of a word, and at the limits.
-const COUNTS: [u16; 9] = [2, 3, 31, 32, 33, 64, 65, 511, 512];
+pub(crate) const COUNTS: [u16; 9] = [2, 3, 31, 32, 33, 64, 65, 511, 512];
 
 #[test]
 fn random_grammars_are_read_as_the_library_answers() {

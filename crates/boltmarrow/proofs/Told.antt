@@ -5,6 +5,7 @@ use mathlib.Core.Logic.{inl, inr}
 use mathlib.Core.Path.{_≡_, refl, sym, subst}
 use Prim.Native.Nat.{ℕ, suc, _≤_}
 use native.Mathlib.Omega.{arith}
+use Rattle.theory.specs.Profile.{Verdict as Judgement, passes, clashes}
 use Rattle.grammar.specs.Flat.{Flat}
 use Rattle.grammar.specs.Outcome.{Outcome, answers, refused, unless, lowest}
 use Rattle.grammar.specs.Refusals.{dues, unlessDue}
@@ -20,7 +21,9 @@ use Rattle.listings.specs.Calls.{CountDone, NumberDone}
 use Rattle.listings.proofs.Exactly as All
 use Rattle.listings.proofs.Exactly.{counts-said, numbers-said}
 use Rattle.blocks.specs.Reading.{Lists, Reads}
-use Rattle.boltmarrow.specs.Exports.{answerOf}
+use Rattle.follows.specs.Lent.{Lent}
+use Rattle.profiles.specs.Calls.{Judges}
+use Rattle.boltmarrow.specs.Exports.{answerOf, verdictOf}
 
 -- a refusal's number is 1 or more
 abbrev pub Numbered : {A : Type 0} → Outcome A → Type 0
@@ -107,7 +110,21 @@ writes-numbered x = answered _ (x .counts)
 pub reads-numbered : {file : List ℕ} {before after : Lists} {s : Outcome _} → Reads file before s after → Numbered s
 reads-numbered x = subst Numbered (sym (x .answer)) (due-numbered _ _ tt)
 
+pub judges-numbered : {g : Flat} {s : Outcome Judgement} {a : Lent} → Judges g s a → Numbered s
+judges-numbered x = answered (x .verdict) (x .answer)
+
 -- so refusal 0 is an answer, and the value is its number
 pub told : (o : Outcome ℕ) → Numbered o → answerOf o .refusal ≡ 0 → o ≡ answers (answerOf o .value)
 told (answers n) h e = refl
 told (refused n) h e = absurd (omega (arith, e))
+
+-- and of a verdict too: clash tells which, and the numbers are its own
+pub judged-passes : (o : Outcome Judgement) → Numbered o → verdictOf o .refusal ≡ 0 → verdictOf o .clash ≡ 0 → o ≡ answers passes
+judged-passes (answers passes) h e k = refl
+judged-passes (answers (clashes r p q t)) h e k = absurd (omega (arith, k))
+judged-passes (refused n) h e k = absurd (omega (arith, e))
+
+pub judged-clashes : (o : Outcome Judgement) → Numbered o → verdictOf o .refusal ≡ 0 → verdictOf o .clash ≡ 1 → o ≡ answers (clashes (verdictOf o .rule) (verdictOf o .lower) (verdictOf o .higher) (verdictOf o .token))
+judged-clashes (answers passes) h e k = absurd (omega (arith, k))
+judged-clashes (answers (clashes r p q t)) h e k = refl
+judged-clashes (refused n) h e k = absurd (omega (arith, e))

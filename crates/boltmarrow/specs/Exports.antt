@@ -22,9 +22,13 @@ use Rattle.listings.specs.declared.Counted.{Counted}
 use Rattle.blocks.specs.Reading.{readingIs}
 use Rattle.blocks.specs.declared.Counts.{Counts as Sizes}
 use Rattle.blocks.specs.declared.Reading.{Reading}
+use Rattle.theory.specs.Profile.{Verdict as Judgement, passes, clashes}
+use Rattle.profiles.specs.Calls.{verdictIs}
+use Rattle.profiles.specs.declared.Verdict.{Verdict as Judging}
 use Rattle.boltmarrow.specs.declared.Answer.{Answer}
 use Rattle.boltmarrow.specs.declared.Counts.{Counts}
 use Rattle.boltmarrow.specs.declared.Stretch.{Stretch}
+use Rattle.boltmarrow.specs.declared.Verdict.{Verdict}
 
 abbrev pub answeredWith : ℕ → Answer
 answeredWith n = record { refusal = 0; value = n }
@@ -99,3 +103,12 @@ countsOf (refused n) = record { refusal = n; rules = 0; tokens = 0; prods = 0; s
 
 abbrev pub countsAnswer : Reading → Counts
 countsAnswer r = countsOf (readingIs r)
+
+-- the verdict: clash 0 where the grammar passes, 1 and the least clash's numbers where it does not; all 0 beside a pass and a refusal
+abbrev pub verdictOf : Outcome Judgement → Verdict
+verdictOf (answers passes) = record { refusal = 0; clash = 0; rule = 0; lower = 0; higher = 0; token = 0 }
+verdictOf (answers (clashes r p q t)) = record { refusal = 0; clash = 1; rule = r; lower = p; higher = q; token = t }
+verdictOf (refused n) = record { refusal = n; clash = 0; rule = 0; lower = 0; higher = 0; token = 0 }
+
+abbrev pub verdictAnswer : Judging → Verdict
+verdictAnswer v = verdictOf (verdictIs v)

@@ -1,5 +1,5 @@
 -- A claim whose test is true means what it says.
-use mathlib.Core.Bool.{Bool, true, false, not, _&&_, false≢true, true≢false}
+use mathlib.Core.Bool.{Bool, true, not, _&&_, false≢true, true≢false}
 use mathlib.Core.List.{List, [], _∷_, List·Memᴰ, List·Memᴰ·head, List·Memᴰ·tail, List·Memᴰ·cases-cons, List·Memᴰ·not-nil}
 use mathlib.Core.Logic.{inl, inr, _↔_}
 use mathlib.Core.Option.{Option, none, some}
@@ -15,19 +15,20 @@ use Rattle.theory.specs.Follow.{Mode, crate, corrected}
 use Rattle.theory.specs.Grammar.{rul, Grammar}
 use Rattle.theory.specs.Levels.{Chosen, within}
 use Rattle.theory.specs.Search.{Chain, one, link}
-use Rattle.theory.specs.Sentences.{Grounded, Expands}
+use Rattle.theory.specs.Profile.{Verdict, passes, clashes, Judged}
+use Rattle.theory.specs.Sentences.{Expands}
 use Rattle.theory.specs.Rounds.{run}
 use Rattle.theory.specs.Visits.{firstVisit, firstCleared, among}
 use Rattle.theory.specs.Tables.{Proper, FirstExact, ReachedExact, ReachedFor, FollowExact, ProductiveExact, CostExact}
 use Rattle.theory.proofs.Bools.{and-split, or-split, or-left, or-right, same, same-is}
 use Rattle.theory.proofs.Choices.{choices-chosen}
-use Rattle.theory.proofs.Cost.{costs-one}
 use Rattle.theory.proofs.CostRounds.{cost-any-order}
 use Rattle.theory.proofs.First.{first-any-order}
 use Rattle.theory.proofs.Follow.{follow-any-order}
 use Rattle.theory.proofs.Levels.{grounded-levels, within-expands}
 use Rattle.theory.proofs.Paths.{Uses, path-chain}
 use Rattle.theory.proofs.Productive.{productive-any-order}
+use Rattle.theory.proofs.Profile.{verdict-judged}
 use Rattle.theory.proofs.Reached.{among-mem, mem-among, reached-any-order}
 use Rattle.theory.proofs.Rounds.{upto, upto-round, all-rounds, settled-exact}
 use Rattle.theory.proofs.Standing.{exact-stands}
@@ -40,8 +41,8 @@ use Rattle.grammar.specs.Production.{checkOf}
 use Rattle.grammar.specs.Well.{WellFormed}
 use Rattle.grammar.proofs.Denoted.{proper}
 use Rattle.grammar.proofs.Well.{well}
-use Rattle.claims.specs.Claims.{Claim, firstIs, followIs, marksAre, costIs, noSentence, circular, sentenceIs, path, noPath, reachedAre, standsAre, sourceNever, sourceGives, grammarOf, Says, Means, AllMean}
-use Rattle.claims.proofs.Tests.{isAnswer, many, firstFilled, reachedFilled, followFilled, productiveFilled, costFilled, chosen, holds, sameList, agree, uses, leads, unused, never, costsGiven, sentenceGiven, so, looked, test, tests}
+use Rattle.claims.specs.Claims.{Claim, firstIs, followIs, marksAre, costIs, noSentence, circular, sentenceIs, path, noPath, reachedAre, standsAre, judged, sourceNever, sourceGives, grammarOf, Says, Means, AllMean}
+use Rattle.claims.proofs.Tests.{isAnswer, many, firstFilled, reachedFilled, followFilled, productiveFilled, costFilled, chosen, holds, sameList, sameVerdict, agree, uses, leads, unused, never, costsGiven, sentenceGiven, so, looked, test, tests}
 
 -- lookups
 agree-at : (n : ℕ) (f : ℕ → Bool) (ts : List ℕ) → agree n f ts ≡ true → (t : ℕ) → t < n → f t ≡ holds t ts
@@ -135,6 +136,17 @@ fine g e = go (checkOf g) refl e
     go (answers tt) q k = well g q
     go (refused n) q k = absurd (false≢true k)
 
+-- verdicts that are the same
+verdict-same : (v w : Verdict) → sameVerdict v w ≡ true → v ≡ w
+verdict-same passes passes e = refl
+verdict-same passes (clashes r p q t) e = absurd (false≢true e)
+verdict-same (clashes r p q t) passes e = absurd (false≢true e)
+verdict-same (clashes r p q t) (clashes r′ p′ q′ t′) e =
+    let s = and-split (eqb r r′ && eqb p p′) _ e in
+    let a = and-split (eqb r r′) _ (s .0) in
+    let b = and-split (eqb q q′) _ (s .1) in
+    rw (eqb-true r r′ (a .0), eqb-true p p′ (a .1), eqb-true q q′ (b .0), eqb-true t t′ (b .1))
+
 -- what a run came to
 so-some : {A : Type 0} (x : Option A) (f : A → Bool) → so x f ≡ true → (a : A) × (x ≡ some a) × (f a ≡ true)
 so-some none f e = absurd (false≢true e)
@@ -165,6 +177,7 @@ says (path g a by b) ok e = path-chain .1 (leads-is (denoted g) a by b e)
 says (noPath g a b) ok e = λ p. unused-chain (denoted g) b e (path-chain .0 p)
 says (reachedAre g rs) ok e = λ r l. set-is _ r rs (reached-right (denoted g) ok r) (agree-at (g .rules) _ rs e r l)
 says (standsAre g r ts) ok e = λ t l. set-is _ t ts (exact-stands (denoted g) (followFilled (denoted g) corrected) (follow-right (denoted g) ok corrected) r t) (agree-at (length (g .costs)) _ ts e t l)
+says (judged g v) ok e = subst (λ z. Judged (denoted g) z) (verdict-same _ v e) (verdict-judged (denoted g) ok (firstFilled (denoted g)) (first-right (denoted g) ok) (followFilled (denoted g) corrected) (follow-right (denoted g) ok corrected))
 says (sourceNever g) ok e = λ c x. stuck-never (denoted g) (price g) 32 start (so-some (never g) _ e .1) x
 says (sourceGives g r n w) ok e =
     let c = so-some (costsGiven g) _ e in

@@ -5,9 +5,11 @@ use mathlib.Core.Option.{Option, none, some}
 use Prim.Native.Nat.{ℕ, zero, suc, _*_}
 use lib.Dec.{eqb, leb}
 use lib.ListN.{length, replicate}
+use Rattle.theory.specs.Clashes.{verdictOf}
 use Rattle.theory.specs.Follow.{Mode, corrected}
 use Rattle.theory.specs.Grammar.{Grammar}
 use Rattle.theory.specs.Levels.{Choices, choicesBelow, within, expanded}
+use Rattle.theory.specs.Profile.{Verdict, passes, clashes}
 use Rattle.theory.specs.Rounds.{run, rounds}
 use Rattle.theory.specs.Visits.{Table, Row, Costs, Marks, firstVisit, firstCleared, followVisit, followCleared, among, reachedVisit, reachedBegun, productiveVisit, productiveCleared, costVisit, costCleared}
 use Rattle.theory.proofs.Bools.{same}
@@ -17,7 +19,7 @@ use Rattle.source.proofs.Running.{stuckIn, costsIn, sentenceIn}
 use Rattle.grammar.specs.Flat.{Flat, denoted, price}
 use Rattle.grammar.specs.Outcome.{Outcome, answers, refused}
 use Rattle.grammar.specs.Production.{checkOf}
-use Rattle.claims.specs.Claims.{Claim, firstIs, followIs, marksAre, costIs, noSentence, circular, sentenceIs, path, noPath, reachedAre, standsAre, sourceNever, sourceGives, grammarOf}
+use Rattle.claims.specs.Claims.{Claim, firstIs, followIs, marksAre, costIs, noSentence, circular, sentenceIs, path, noPath, reachedAre, standsAre, judged, sourceNever, sourceGives, grammarOf}
 
 abbrev pub isAnswer : {A : Type 0} → Outcome A → Bool
 isAnswer (answers x) = true
@@ -45,7 +47,7 @@ costFilled d k = rounds (costVisit d k) (many d (d .rules)) costCleared
 abbrev pub chosen : Grammar → (ℕ → ℕ) → Choices
 chosen d k = choicesBelow d k (costFilled d k) (d .prods)
 
--- a number in a list, and lists that are the same
+-- a number in a list, and lists and verdicts that are the same
 abbrev pub holds : ℕ → List ℕ → Bool
 holds t [] = false
 holds t (s ∷ ts) = eqb t s || holds t ts
@@ -55,6 +57,12 @@ sameList [] [] = true
 sameList [] (y ∷ ys) = false
 sameList (x ∷ xs) [] = false
 sameList (x ∷ xs) (y ∷ ys) = eqb x y && sameList xs ys
+
+abbrev pub sameVerdict : Verdict → Verdict → Bool
+sameVerdict passes passes = true
+sameVerdict passes (clashes r p q t) = false
+sameVerdict (clashes r p q t) passes = false
+sameVerdict (clashes r p q t) (clashes r′ p′ q′ t′) = (eqb r r′ && eqb p p′) && (eqb q q′ && eqb t t′)
 
 -- the same below n
 abbrev pub agree : ℕ → (ℕ → Bool) → List ℕ → Bool
@@ -102,6 +110,7 @@ looked (path g a by b) = leads (denoted g) a by b
 looked (noPath g a b) = unused (denoted g) (denoted g .prods) b
 looked (reachedAre g rs) = agree (g .rules) (reachedFilled (denoted g)) rs
 looked (standsAre g r ts) = agree (length (g .costs)) (λ t. followFilled (denoted g) corrected r t) ts
+looked (judged g v) = sameVerdict (verdictOf (denoted g) (firstFilled (denoted g)) (followFilled (denoted g) corrected)) v
 looked (sourceNever g) = so (never g) (λ u. true)
 looked (sourceGives g r n w) = so (costsGiven g) (λ c. eqb (c r) n && so (sentenceGiven g c r) (λ v. sameList v w))
 

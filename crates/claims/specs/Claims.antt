@@ -9,6 +9,7 @@ use Rattle.theory.specs.Entries.{costMax}
 use Rattle.theory.specs.Definitions.{First, Productive, Cost, Path, Reached}
 use Rattle.theory.specs.Follow.{Mode, crate, corrected, Follow, Stands}
 use Rattle.theory.specs.Grammar.{rul}
+use Rattle.theory.specs.Profile.{Verdict, passes, clashes, Judged}
 use Rattle.theory.specs.Rounds.{run}
 use Rattle.theory.specs.Sentences.{Grounded, Expands}
 use Rattle.theory.specs.Tables.{CostExact}
@@ -17,7 +18,7 @@ use Rattle.source.specs.Costs.{start, Returns}
 use Rattle.source.specs.Sentence as Sentence
 use Rattle.grammar.specs.Flat.{Flat, denoted, price}
 use Rattle.grammar.specs.Well.{WellFormed}
-use Rattle.claims.specs.Grammars.{g1, g2, g3, g4, g6, dead, exports}
+use Rattle.claims.specs.Grammars.{g1, g2, g3, g4, g6, dead, exports, vanishing, several, crossed}
 
 -- a set is given by its tokens; `by` names the rules between, as a hint to the test
 pub data Claim : Type 0 where
@@ -32,6 +33,7 @@ pub data Claim : Type 0 where
   noPath : Flat → (a b : ℕ) → Claim
   reachedAre : Flat → (rules : List ℕ) → Claim
   standsAre : Flat → (r : ℕ) → (tokens : List ℕ) → Claim
+  judged : Flat → Verdict → Claim
   sourceNever : Flat → Claim
   sourceGives : Flat → (r n : ℕ) → (w : List ℕ) → Claim
 
@@ -48,6 +50,7 @@ grammarOf (path g a by b) = g
 grammarOf (noPath g a b) = g
 grammarOf (reachedAre g rs) = g
 grammarOf (standsAre g r ts) = g
+grammarOf (judged g v) = g
 grammarOf (sourceNever g) = g
 grammarOf (sourceGives g r n w) = g
 
@@ -74,6 +77,8 @@ Says (noPath g a b) = Path (denoted g) a b → ⊥
 Says (reachedAre g rs) = (r : ℕ) → r < g .rules → Reached (denoted g) r ↔ List·Memᴰ r rs
 -- the tokens t for which r t stands in a form derived from `start eof` are these
 Says (standsAre g r ts) = (t : ℕ) → t < length (g .costs) → Stands (denoted g) r t ↔ List·Memᴰ t ts
+-- the profile's verdict
+Says (judged g v) = Judged (denoted g) v
 -- the Rust's `rule_min_costs` never returns
 Says (sourceNever g) = (c : Costs) → Returns (denoted g) (price g) start c → ⊥
 -- the Rust's `rule_min_costs` returns, with n for r, and its `min_sentence` of r returns w
@@ -115,7 +120,7 @@ starred =
 abbrev pub repeats : List Claim
 repeats = sourceGives g1 0 1 (0 ∷ 0 ∷ []) ∷ []
 
--- of the change requests: L2, z stands after A in mode 1 and not in mode 2; L7, both exports are followed by eof, and the start has the cheaper one's sentence
+-- of the change requests: L2, z stands after A in mode 1 and not in mode 2; L7, both exports are followed by eof, and the start has the cheaper one's sentence; L8, who passes, and the least clash: T where two vanish and share none, FOLLOW of the owner added, productions 0 and 5 before 1 and 2
 abbrev pub requested : List Claim
 requested =
     reachedAre dead (0 ∷ 1 ∷ 2 ∷ [])
@@ -135,4 +140,14 @@ requested =
     ∷ costIs exports 2 2
     ∷ sentenceIs exports 0 (0 ∷ [])
     ∷ path exports 0 [] 2
+    ∷ judged g1 passes
+    ∷ judged g2 passes
+    ∷ judged g3 (clashes 1 1 2 0)
+    ∷ judged g4 passes
+    ∷ judged g6 passes
+    ∷ judged dead passes
+    ∷ judged exports (clashes 0 0 3 0)
+    ∷ judged vanishing (clashes 2 2 3 2)
+    ∷ judged several (clashes 2 2 3 0)
+    ∷ judged crossed (clashes 1 0 5 0)
     ∷ []

@@ -29,3 +29,15 @@ dead = flat 4 (0 ∷ 1 ∷ 2 ∷ 3 ∷ []) (0 ∷ 1 ∷ 2 ∷ 3 ∷ 5 ∷ []) (3
 -- request L7's, two exports D and W: D: a; W: a b. Rules 1 D, 2 W; tokens 0 a, 1 b
 abbrev pub exports : Flat
 exports = flat 3 (0 ∷ 1 ∷ 2 ∷ 0 ∷ []) (0 ∷ 1 ∷ 2 ∷ 4 ∷ 5 ∷ []) (32769 ∷ 0 ∷ 0 ∷ 1 ∷ 32770 ∷ []) (1 ∷ 1 ∷ 1 ∷ [])
+
+-- request L8's. S: a; and a dead rule U: nothing; U: nothing. Rules 1 S, 2 U; token 0 a
+abbrev pub vanishing : Flat
+vanishing = flat 3 (0 ∷ 1 ∷ 2 ∷ 2 ∷ []) (0 ∷ 1 ∷ 2 ∷ 2 ∷ 2 ∷ []) (32769 ∷ 0 ∷ []) (1 ∷ 1 ∷ [])
+
+-- S: A B; A: nothing; A: a; A: C; C: nothing; B: a. Rules 1 S, 2 A, 3 B, 4 C; token 0 a
+abbrev pub several : Flat
+several = flat 5 (0 ∷ 1 ∷ 2 ∷ 2 ∷ 2 ∷ 4 ∷ 3 ∷ []) (0 ∷ 1 ∷ 3 ∷ 3 ∷ 4 ∷ 5 ∷ 5 ∷ 6 ∷ []) (32769 ∷ 32770 ∷ 32771 ∷ 0 ∷ 32772 ∷ 0 ∷ []) (1 ∷ 1 ∷ [])
+
+-- A: a; A: b; A: b; A: c; A: d; A: a. Tokens 0 a, 1 b, 2 c, 3 d
+abbrev pub crossed : Flat
+crossed = flat 2 (1 ∷ 1 ∷ 1 ∷ 1 ∷ 1 ∷ 1 ∷ 0 ∷ []) (0 ∷ 1 ∷ 2 ∷ 3 ∷ 4 ∷ 5 ∷ 6 ∷ 7 ∷ []) (0 ∷ 1 ∷ 1 ∷ 2 ∷ 3 ∷ 0 ∷ 32769 ∷ []) (1 ∷ 1 ∷ 1 ∷ 1 ∷ 1 ∷ [])

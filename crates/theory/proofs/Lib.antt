@@ -15,6 +15,8 @@ pub mod Paths
 pub mod Search
 pub mod Reached
 pub mod Standing
+pub mod Profile
+pub mod Clashes
 pub mod Sentences
 pub mod Choices
 pub mod Lengths

@@ -1,6 +1,7 @@
 //! Commands for people over the proved library. Each is a subcommand of this program and a module of its own; bin/NAME
 //! of the repository builds the program and runs it:
 //!
+//!     boltmarrow profile FILE             bin/profile
 //!     boltmarrow rows FILE [RULE]         bin/rows
 //!
 //! What all of them share: the words behind the command (words.rs); a grammar with its names, from a block file or a
@@ -11,6 +12,7 @@ mod failure;
 mod input;
 mod names;
 mod output;
+mod profile;
 mod rows;
 mod text;
 mod words;
@@ -32,18 +34,27 @@ pub struct Command {
     help: &'static str,
     /// How many words it takes, at least and at most.
     words: (usize, usize),
-    run: fn(&[OsString], &mut Output) -> Result<(), Failure>,
+    run: fn(&[OsString], &mut Output) -> Result<Ending, Failure>,
 }
 
-const COMMANDS: &[Command] = &[rows::COMMAND];
+/// How a command ends that has printed its answer.
+#[derive(Clone, Copy)]
+pub enum Ending {
+    Answered = 0,
+    /// The grammar clashes: an answer, but one that a script is to stop at.
+    Clash = 1,
+}
 
-fn run(command: &Command, words: impl Iterator<Item = OsString>) -> Result<(), Failure> {
+const COMMANDS: &[Command] = &[profile::COMMAND, rows::COMMAND];
+
+fn run(command: &Command, words: impl Iterator<Item = OsString>) -> Result<Ending, Failure> {
     let mut output = Output::new();
-    match Words::read(words, command.words)? {
-        Words::Help => output.line(command.help)?,
+    let ending = match Words::read(words, command.words)? {
+        Words::Help => output.line(command.help).map(|()| Ending::Answered)?,
         Words::Given(words) => (command.run)(&words, &mut output)?,
-    }
-    output.flush()
+    };
+    output.flush()?;
+    Ok(ending)
 }
 
 /// Says what went wrong, and how the command is used where that is what is wrong; the status.
@@ -64,7 +75,7 @@ fn main() {
     let mut words = env::args_os().skip(1);
     let name = words.next().unwrap_or_default();
     exit(match COMMANDS.iter().find(|command| name == command.name) {
-        Some(command) => run(command, words).err().map_or(0, |failure| failed(command, &failure)),
+        Some(command) => run(command, words).map_or_else(|failure| failed(command, &failure), |ending| ending as i32),
         None => {
             let names: Vec<_> = COMMANDS.iter().map(|command| command.name).collect();
             say(format!("use: boltmarrow COMMAND ..; the commands: {}", names.join(", ")));

@@ -1,7 +1,8 @@
-//! The names of rules and tokens: those of a text, or their numbers.
+//! The names of rules and tokens: those of a text, their numbers, or names made up from these; and productions written
+//! out by names.
 use std::fmt;
 
-use boltmarrow::{RIdx, Refusal, TIdx};
+use boltmarrow::{Grammar, PIdx, RIdx, Refusal, Symbol, TIdx};
 
 use crate::failure::Failure;
 
@@ -38,6 +39,42 @@ impl Names {
         name(&self.tokens, tidx.as_storaget())
     }
 
+    pub fn symbol(&self, symbol: Symbol) -> Name<'_> {
+        match symbol {
+            Symbol::Rule(ridx) => self.rule(ridx),
+            Symbol::Token(tidx) => self.token(tidx),
+        }
+    }
+
+    /// Those that there are; for a block file made-up ones, r0 for rule 0 and t0 for token 0, as `bin/blocks show` has
+    /// them: where rules and tokens stand side by side, numbers alone don't tell them apart.
+    pub fn or_made_up(self, grammar: &Grammar) -> Names {
+        if !self.rules.is_empty() {
+            return self;
+        }
+        let rules = grammar.iter_rules().map(|ridx| format!("r{}", ridx.as_storaget())).collect();
+        let tokens = grammar.iter_tidxs().map(|tidx| format!("t{}", tidx.as_storaget())).collect();
+        Names { rules, tokens }
+    }
+
+    /// A production as a readable text has it: `Num: digits Frac`, with `a*3` for a a a, and `Frac:` alone if it is of
+    /// no symbols.
+    pub fn production(&self, grammar: &Grammar, pidx: PIdx) -> Result<String, Refusal> {
+        let mut text = format!("{}:", self.rule(grammar.prod_to_rule(pidx)?));
+        let symbols: Vec<Symbol> = grammar.prod(pidx)?.collect();
+        let mut rest = &symbols[..];
+        while let Some(&symbol) = rest.first() {
+            let (name, times) = (self.symbol(symbol), rest.iter().take_while(|&&next| next == symbol).count());
+            text += &match times {
+                1 => format!(" {name}"),
+                2 => format!(" {name} {name}"),
+                _ => format!(" {name}*{times}"),
+            };
+            rest = &rest[times..];
+        }
+        Ok(text)
+    }
+
     /// The rule of that name or number. A number that no grammar has is refused here, others by the library.
     pub fn find_rule(&self, word: &str) -> Result<RIdx, Failure> {
         if let Some(number) = self.rules.iter().position(|name| name == word) {
@@ -59,6 +96,7 @@ impl Names {
 #[cfg(test)]
 mod tests {
     use super::*;
+    use crate::text::Text;
 
     #[test]
     fn rules_by_name_and_number() {
@@ -80,5 +118,20 @@ mod tests {
         assert_eq!(none.find_rule("3"), Ok(RIdx(3)));
         assert_eq!(none.find_rule("Row").unwrap_err().status(), 2);
         assert_eq!(none.rule(RIdx(3)).to_string(), "3");
+    }
+
+    #[test]
+    fn productions_as_a_text_has_them() {
+        let text = "tokens a b eof\nrules start A\nstart: A\nA: a A b\nA: a a A A A a*257\nA:\nA: b*3";
+        let said = Text::read(text).unwrap();
+        let grammar = said.grammar().unwrap();
+        let written = |names: &Names| [0, 1, 2, 3, 4].map(|p| names.production(&grammar, PIdx(p)).unwrap());
+        let due = ["start: A", "A: a A b", "A: a a A*3 a*257", "A:", "A: b*3"];
+        assert_eq!(written(&said.names), due);
+        assert_eq!(said.names.production(&grammar, PIdx(5)), Err(Refusal::ProductionNumber));
+        let made_up = Names::default().or_made_up(&grammar);
+        assert_eq!(written(&made_up), ["r0: r1", "r1: t0 r1 t1", "r1: t0 t0 r1*3 t0*257", "r1:", "r1: t1*3"]);
+        assert_eq!(made_up.token(TIdx(2)).to_string(), "t2");
+        assert_eq!(written(&said.names.or_made_up(&grammar)), due);
     }
 }

@@ -6,7 +6,7 @@ use boltmarrow::Refusal;
 use crate::failure::Failure;
 use crate::input::Input;
 use crate::output::Output;
-use crate::Command;
+use crate::{Command, Ending};
 
 const HELP: &str = "\
 use: bin/rows FILE [RULE]
@@ -40,7 +40,7 @@ fn reason(refusal: Refusal) -> String {
     }
 }
 
-fn run(words: &[OsString], output: &mut Output) -> Result<(), Failure> {
+fn run(words: &[OsString], output: &mut Output) -> Result<Ending, Failure> {
     let input = Input::read(&words[0])?;
     let (names, ridx) = (&input.names, input.rule(words.get(1))?);
     let rule = names.rule(ridx);
@@ -56,5 +56,5 @@ fn run(words: &[OsString], output: &mut Output) -> Result<(), Failure> {
             }
         }
     }
-    Ok(())
+    Ok(Ending::Answered)
 }

@@ -157,6 +157,7 @@ fn a_refused_grammar_ends_every_call_first() {
     assert_eq!(refused(has_path(wrong, 9, 9)), 1);
     assert_eq!(refused(reached_fill(wrong, &mut table)), 1);
     assert_eq!(refused(follow_visit(wrong, 9, 99, &mut table, &[], &empty, &[])), 1);
+    assert_eq!(profile(wrong, &mut table, &mut [], &mut [], &mut []), Verdict { refusal: 1, ..Verdict::default() });
     assert_eq!(refused(min_sentence(wrong, 9, &mut table, &mut [], &mut [])), 1);
     assert_eq!(refused(count_min_sentences(wrong, 9, &mut table, &mut [], &mut [])), 1);
     assert_eq!(refused(min_sentence_at(wrong, 9, 9, [&mut table, &mut [], &mut []], &mut [])), 1);
@@ -228,6 +229,77 @@ fn follows_fill_leaves_the_reached_row() {
             follow_fill(DEAD, mode, &mut follow, &mut first, &mut empty, &mut reached).number().unwrap();
             assert_eq!((follow, reached), ([0b100, 0b100, 0b100 | z, 0], [0b0111]), "mode {mode}, row {row:b}");
         }
+    }
+}
+
+/// FOLLOW, FIRST, EMPTY and the reached row, in the lengths that G1 has them in.
+const PROFILE: [usize; 4] = [4, 4, 1, 1];
+
+fn profiled(g: Flat, tables: &mut [Vec<u32>; 4]) -> Verdict {
+    let [follow, first, empty, reached] = tables;
+    profile(g, follow, first, empty, reached)
+}
+
+/// The profile is refused with this number, says nothing beside it, and leaves the tables as found.
+fn holds_unprofiled(refusal: u32, g: Flat, tables: &[Vec<u32>; 4]) {
+    let mut after = tables.clone();
+    assert_eq!(profiled(g, &mut after), Verdict { refusal, ..Verdict::default() });
+    assert_eq!(&after, tables);
+}
+
+#[test]
+fn seven_for_the_tables_of_the_profile() {
+    for (at, right) in PROFILE.into_iter().enumerate() {
+        for len in [0, right - 1, right + 1, 9] {
+            let mut wrong = PROFILE.map(|len| vec![9; len]);
+            wrong[at] = vec![9; len];
+            holds_unprofiled(7, G1, &wrong);
+        }
+    }
+}
+
+/// Tables of right lengths, and of wrong ones: 7 comes last.
+#[test]
+fn one_to_six_end_the_profile_first() {
+    let wrong = [
+        Flat { rules: 513, ..G1 },
+        Flat { starts: &[0, 3, 2, 4, 6, 6, 7], ..G1 },
+        Flat { owners: &[1, 2, 2, 3, 4, 0], ..G1 },
+        Flat { owners: &[1, 2, 2, 2, 2, 0], ..G1 },
+        Flat { symbols: &[32770, 0, 32771, 3, 1, 0, 32769], ..G1 },
+        Flat { symbols: &[32770, 0, 32768, 2, 1, 0, 32769], ..G1 },
+    ];
+    for (g, number) in wrong.into_iter().zip(1..) {
+        holds_unprofiled(number, g, &PROFILE.map(|len| vec![9; len]));
+        holds_unprofiled(number, g, &Default::default());
+    }
+}
+
+/// Whatever the tables held; all else of the record is 0 beside a pass.
+#[test]
+fn the_profile_fills_its_tables() {
+    for word in [0, 9, u32::MAX] {
+        let mut tables = PROFILE.map(|len| vec![word; len]);
+        assert_eq!(profiled(G1, &mut tables), Verdict::default());
+        let [follow, first] = [vec![0b1000, 0b1000, 0b0001, 0b1000], vec![0b101, 0b101, 0b100, 0b010]];
+        assert_eq!(tables, [follow, first, vec![0b1100], vec![0b1111]]);
+        let mut tables = PROFILE.map(|len| vec![word; len]);
+        assert_eq!(profiled(DEAD, &mut tables), Verdict::default());
+        assert_eq!(tables, [vec![0b100, 0b100, 0b100, 0], vec![1; 4], vec![0], vec![0b0111]]);
+    }
+}
+
+/// S: a; and of U, which is used nowhere, a pair of productions. Rules 1 S, 2 U; tokens 0 a, 1 eof.
+#[test]
+fn t_stands_for_the_token_where_two_vanish_and_share_none() {
+    let nothing =
+        Flat { rules: 3, owners: &[0, 1, 2, 2], starts: &[0, 1, 2, 2, 2], symbols: &[32769, 0], costs: &[1, 1] };
+    let shared = Flat { starts: &[0, 1, 2, 3, 4], symbols: &[32769, 0, 0, 0], ..nothing };
+    for (g, token) in [(nothing, 2), (shared, 0)] {
+        let mut tables = [vec![9; 3], vec![9; 3], vec![9; 1], vec![9; 1]];
+        let clash = Verdict { refusal: 0, clash: 1, rule: 2, lower: 2, higher: 3, token };
+        assert_eq!(profiled(g, &mut tables), clash);
+        assert_eq!((&tables[0][..], tables[3][0]), (&[0b10, 0b10, 0][..], 0b011));
     }
 }
 

@@ -4,6 +4,7 @@ mod differences;
 mod files;
 mod grammars;
 mod jobs;
+mod profile;
 mod refusals;
 mod reports;
 mod sentences;

@@ -1,0 +1,7 @@
+pub mod Walking
+pub mod Rowing
+pub mod Turning
+pub mod Pairing
+pub mod Judging
+pub mod Calling
+pub mod Determined

@@ -24,7 +24,7 @@ use Rattle.blocks.specs.declared.Counts.{Counts as Sizes}
 use Rattle.blocks.specs.declared.Reading.{Reading}
 use Rattle.theory.specs.Profile.{Verdict as Judgement, passes, clashes}
 use Rattle.profiles.specs.Calls.{verdictIs}
-use Rattle.profiles.specs.declared.Verdict.{Verdict as Judging}
+use Rattle.profiles.specs.declared.Verdict.{Verdict as Profiled}
 use Rattle.boltmarrow.specs.declared.Answer.{Answer}
 use Rattle.boltmarrow.specs.declared.Counts.{Counts}
 use Rattle.boltmarrow.specs.declared.Stretch.{Stretch}
@@ -110,5 +110,5 @@ verdictOf (answers passes) = record { refusal = 0; clash = 0; rule = 0; lower = 
 verdictOf (answers (clashes r p q t)) = record { refusal = 0; clash = 1; rule = r; lower = p; higher = q; token = t }
 verdictOf (refused n) = record { refusal = n; clash = 0; rule = 0; lower = 0; higher = 0; token = 0 }
 
-abbrev pub verdictAnswer : Judging → Verdict
+abbrev pub verdictAnswer : Profiled → Verdict
 verdictAnswer v = verdictOf (verdictIs v)

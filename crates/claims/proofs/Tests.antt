@@ -5,7 +5,7 @@ use mathlib.Core.Option.{Option, none, some}
 use Prim.Native.Nat.{ℕ, zero, suc, _*_}
 use lib.Dec.{eqb, leb}
 use lib.ListN.{length, replicate}
-use Rattle.theory.specs.Clashes.{verdictOf}
+use Rattle.theory.specs.Clashes.{verdictBy}
 use Rattle.theory.specs.Follow.{Mode, corrected}
 use Rattle.theory.specs.Grammar.{Grammar}
 use Rattle.theory.specs.Levels.{Choices, choicesBelow, within, expanded}
@@ -110,7 +110,7 @@ looked (path g a by b) = leads (denoted g) a by b
 looked (noPath g a b) = unused (denoted g) (denoted g .prods) b
 looked (reachedAre g rs) = agree (g .rules) (reachedFilled (denoted g)) rs
 looked (standsAre g r ts) = agree (length (g .costs)) (λ t. followFilled (denoted g) corrected r t) ts
-looked (judged g v) = sameVerdict (verdictOf (denoted g) (firstFilled (denoted g)) (followFilled (denoted g) corrected)) v
+looked (judged g v) = sameVerdict (verdictBy (denoted g) (firstFilled (denoted g)) (followFilled (denoted g) corrected)) v
 looked (sourceNever g) = so (never g) (λ u. true)
 looked (sourceGives g r n w) = so (costsGiven g) (λ c. eqb (c r) n && so (sentenceGiven g c r) (λ v. sameList v w))
 

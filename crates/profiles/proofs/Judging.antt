@@ -12,7 +12,7 @@ use Rattle.theory.specs.Below.{some, FirstBelow}
 use Rattle.theory.specs.Clashes.{sharesOf, pairOf}
 use Rattle.theory.specs.Profile.{passes, clashes}
 use Rattle.theory.specs.Visits.{Table, Marks}
-use Rattle.theory.proofs.Below.{some-found}
+use Rattle.theory.proofs.Below.{some-found, first-at, scan-true}
 use Rattle.theory.proofs.Bools.{and-split}
 use Rattle.theory.proofs.Clashes.{lowest-passes, lowest-rule, lowest-low}
 use Rattle.theory.proofs.Profile.{none-passes, found-least}
@@ -23,22 +23,9 @@ use Rattle.profiles.specs.declared.Verdict.the-variants.{Passes, Clashes
 use Rattle.profiles.specs.Calls.{Judgeable, Clashing, Judging}
 use Rattle.profiles.specs.Rows.{Readable, Rowable, marksIn, followIn, LowestIs, LeastShared}
 
--- a scan that has something to find finds it
-scan-true : (f : ℕ → Bool) (n x : ℕ) → some n f ≡ true → FirstBelow f n (ltb x n) x → FirstBelow f n true x
-scan-true f n x e b = go (ltb x n) b
-  where
-    go : (has : Bool) → FirstBelow f n has x → FirstBelow f n true x
-    go true k = k
-    go false k = let s = some-found f n e in absurd (true≢false (sym (s .2) ∙ k .none refl (s .0) (s .1)))
-
--- the same with one number more
+-- a scan below n, where one number more may pass too
 scan-last : (f : ℕ → Bool) (n x : ℕ) → some (suc n) f ≡ true → x ≤ n → FirstBelow f n (ltb x n) x → FirstBelow f (suc n) true x
-scan-last f n x e le b = record {
-  below = λ z. omega arith;
-  passes = λ z. there (ltb x n) refl b;
-  first = λ z i l. before (ltb x n) b i l;
-  none = λ z. absurd (true≢false z);
-}
+scan-last f n x e le b = first-at f (suc n) x (omega arith) (there (ltb x n) refl b) (before (ltb x n) b)
   where
     before : (has : Bool) → FirstBelow f n has x → (i : ℕ) → i < x → f i ≡ false
     before true k i l = k .first refl i l

@@ -1,5 +1,5 @@
 -- First choices: going up a rule's productions, and rule by rule.
-use mathlib.Core.Bool.{Bool, true, false, _&&_, false≢true}
+use mathlib.Core.Bool.{Bool, true, false, _&&_}
 use mathlib.Core.List.{List}
 use mathlib.Core.Path.{_≡_, refl, sym, ap, _∙_, subst}
 use Prim.Native.Nat.{ℕ, _+_, _-_, _≤_, _<_, min}
@@ -12,6 +12,7 @@ use borrow.Author.Tests.{le-leb, lt-leb, ltb-true, ltb-false, le-ltb, eq-eqb, ne
 use Rattle.theory.specs.Below.{FirstBelow}
 use Rattle.theory.specs.Levels.{suits}
 use Rattle.theory.specs.Visits.{formCost}
+use Rattle.theory.proofs.Below.{first-none}
 use Rattle.theory.proofs.Choices.{chosen-all}
 use Rattle.theory.proofs.Cost.{sum-cut}
 use Rattle.grammar.specs.Flat.{Flat, flat, at, ProdAt, form, denoted, price}
@@ -145,15 +146,6 @@ unpicked r = elim (decLt r 512) [
   | no l ↦ List·getD-eq-default (replicate {A = ℕ} 512 4096) 4096 {n = r} (omega (arith, length-replicate {A = ℕ} 512 4096))
 ]
 
--- none below n passes
-none-first : (f : ℕ → Bool) (n x : ℕ) → ((i : ℕ) → i < n → f i ≡ false) → FirstBelow f n false x
-none-first f n x h = record {
-  below = λ y. absurd (false≢true y);
-  passes = λ y. absurd (false≢true y);
-  first = λ y. absurd (false≢true y);
-  none = λ z. h;
-}
-
 module _ (g : Flat) (cost choice₀ : List ℕ) (ok : Choosable g cost choice₀) where
   pub choice-links : Linkable (g .owners) (replicate 512 4096) (replicate 4096 4096)
   choice-links = linkable (g .owners) (ok .well .sizes .prods-high) (λ p l. omega (arith, ok .well .owner p l, ok .well .sizes .rules-high))
@@ -175,7 +167,7 @@ module _ (g : Flat) (cost choice₀ : List ℕ) (ok : Choosable g cost choice₀
         all q = elim (decLt q r) [
           | yes k ↦ c .done q k
           | no k ↦ subst (λ b. FirstBelow (suits (denoted g) (price g) (costsOf cost) q) (length (g .owners)) b (getD choice q 4096)) (sym (le-ltb (getD choice q 4096) 4096 (omega (arith, c .left q (omega arith)))))
-              (none-first _ _ _ (λ p lp. unfit g cost q p (λ e. omega (arith, ok .well .owner p lp))))
+              (first-none _ _ _ (λ p lp. unfit g cost q p (λ e. omega (arith, ok .well .owner p lp))))
         ]
 
     module _ (l : r < g .rules) where

@@ -1,5 +1,5 @@
 -- The productions from the last down: the marks of the rows passed, and the least clash among them.
-use mathlib.Core.Bool.{Bool, true, false, _&&_, _||_, true≢false}
+use mathlib.Core.Bool.{Bool, true, false, _&&_, _||_}
 use mathlib.Core.Logic.{_⊎_, inl, inr}
 use mathlib.Core.Path.{_≡_, refl, sym, subst}
 use Prim.Native.Nat.{ℕ, suc, _≤_, _<_}
@@ -11,7 +11,7 @@ use Rattle.theory.specs.Below.{some, FirstBelow}
 use Rattle.theory.specs.Clashes.{rowOf, sharesOf, pairOf, lowOf, ruleOf, aboveOf, Lowest}
 use Rattle.theory.specs.Grammar.{Grammar}
 use Rattle.theory.specs.Visits.{Table, Marks}
-use Rattle.theory.proofs.Below.{some-at, some-found, all-none}
+use Rattle.theory.proofs.Below.{some-at, some-found, all-none, first-at, first-none}
 use Rattle.theory.proofs.Bools.{and-split, and-join, or-split, or-left, or-right, bool-eq, eqb-same}
 
 module _ (g : Grammar) (m : Marks) (f : Table) where
@@ -126,29 +126,14 @@ module _ (g : Grammar) (m : Marks) (f : Table) where
         go p lp false e = e
 
     pub lowest-passes : g .rules ≤ rule → FirstBelow (ruleOf g m f) (g .rules) false rule
-    lowest-passes le = record {
-      below = λ e. absurd (true≢false (sym e));
-      passes = λ e. absurd (true≢false (sym e));
-      first = λ e. absurd (true≢false (sym e));
-      none = λ e r l. none-below r (omega arith);
-    }
+    lowest-passes le = first-none (ruleOf g m f) (g .rules) rule (λ r l. none-below r (omega arith))
 
     module _ (lt : rule < g .rules) where
       pub lowest-rule : FirstBelow (ruleOf g m f) (g .rules) true rule
-      lowest-rule = record {
-        below = λ e. lt;
-        passes = λ e. some-at (lowOf g m f rule) (g .prods) lower (w .isProd lt) (w .isLow lt);
-        first = λ e r l. none-below r l;
-        none = λ e. absurd (true≢false e);
-      }
+      lowest-rule = first-at (ruleOf g m f) (g .rules) rule lt (some-at (lowOf g m f rule) (g .prods) lower (w .isProd lt) (w .isLow lt)) none-below
 
       pub lowest-low : FirstBelow (lowOf g m f rule) (g .prods) true lower
-      lowest-low = record {
-        below = λ e. w .isProd lt;
-        passes = λ e. w .isLow lt;
-        first = λ e p l. go p (omega (arith, w .isProd lt)) l (lowOf g m f rule p) refl;
-        none = λ e. absurd (true≢false e);
-      }
+      lowest-low = first-at (lowOf g m f rule) (g .prods) lower (w .isProd lt) (w .isLow lt) (λ p l. go p (omega (arith, w .isProd lt)) l (lowOf g m f rule p) refl)
         where
           go : (p : ℕ) → p < g .prods → p < lower → (b : Bool) → lowOf g m f rule p ≡ b → lowOf g m f rule p ≡ false
           go p lp l true e = elim (no-lower rule p lp e) [ inl k ↦ absurd (omega arith) | inr (k, j) ↦ absurd (omega arith) ]

@@ -1,5 +1,5 @@
 -- The profile: the tests on finished tables are the definitions, the first of each in turn is the least clash, and there is one verdict.
-use mathlib.Core.Bool.{Bool, true, false, _&&_, _||_, cond, false≢true, true≢false}
+use mathlib.Core.Bool.{Bool, true, false, _&&_, _||_, cond, true≢false}
 use mathlib.Core.List.{[], _∷_, List·Memᴰ, List·Memᴰ·head, List·Memᴰ·tail, List·Memᴰ·cases-cons, List·Memᴰ·not-nil, Memᴰ·append-right}
 use mathlib.Core.Logic.{inl, inr, _↔_}
 use mathlib.Core.Path.{_≡_, refl, sym, _∙_, ap, subst}
@@ -10,13 +10,13 @@ use native.Mathlib.Omega.{arith}
 use lib.Dec.{eqb, ltb}
 use borrow.Author.Tests.{eqb-true, eq-eqb, ne-eqb, ltb-true, lt-ltb, le-ltb}
 use Rattle.theory.specs.Below.{some, FirstBelow}
-use Rattle.theory.specs.Clashes.{startsOf, rowOf, sharesOf, pairOf, lowOf, ruleOf, leastOf, verdictOf}
+use Rattle.theory.specs.Clashes.{startsOf, rowOf, sharesOf, pairOf, lowOf, ruleOf, leastOf, verdictBy}
 use Rattle.theory.specs.Grammar.{tok, rul, Form, Grammar, eof, Derives}
 use Rattle.theory.specs.Follow.{corrected, Follow}
 use Rattle.theory.specs.Profile.{Starts, own, after, Pair, Clash, shared, both, Before, LeastClash, Verdict, passes, clashes, Judged, passing, clashing}
 use Rattle.theory.specs.Tables.{Proper, FirstExact, FollowExact}
 use Rattle.theory.specs.Visits.{Table, Marks, nullable, firstOf, aheadOf}
-use Rattle.theory.proofs.Below.{some-at, some-found}
+use Rattle.theory.proofs.Below.{some-at, first-at, first-none, scan-true}
 use Rattle.theory.proofs.Bools.{and-split, and-join, or-split, or-left, or-right, eqb-same}
 use Rattle.theory.proofs.Follow.{vanishes-true, vanishes-whole, ahead-true, ahead-whole}
 use Rattle.theory.proofs.Standing.{vanishes-yields, yields-vanishes, ahead-yields, yields-ahead, follow-stands}
@@ -208,50 +208,21 @@ module _ (g : Grammar) (ok : Proper g) (m : Marks) (h : FirstExact g m) (f : Tab
     found-least = clashing (record { is = clash-told g ok m h f x r p q t .1 (is-pair, b .token .passes refl); least = earlier })
 
 -- the first number that passes a test
-least-upto : (f : ℕ → Bool) (n : ℕ) → leastOf f n ≤ n
-least-upto f zero = omega arith
-least-upto f (suc n) = go (ltb (leastOf f n) n) (f n) (least-upto f n)
-  where
-    go : (a b : Bool) → leastOf f n ≤ n → cond a (leastOf f n) (cond b n (suc n)) ≤ suc n
-    go true b l = omega arith
-    go false true l = omega arith
-    go false false l = omega arith
-
 least-first : (f : ℕ → Bool) (n : ℕ) → FirstBelow f n (ltb (leastOf f n) n) (leastOf f n)
-least-first f zero = record { below = λ e. absurd (false≢true e); passes = λ e. absurd (false≢true e); first = λ e. absurd (false≢true e); none = λ e i l. absurd (not-suc-le-zero l) }
-least-first f (suc n) = go (ltb (leastOf f n) n) (f n) refl refl (least-first f n)
+least-first f zero = first-none f 0 0 (λ i l. absurd (not-suc-le-zero l))
+least-first f (suc n) = go (ltb (leastOf f n) n) (f n) refl (least-first f n)
   where
-    go : (a b : Bool) → ltb (leastOf f n) n ≡ a → f n ≡ b → FirstBelow f n a (leastOf f n)
-        → FirstBelow f (suc n) (ltb (cond a (leastOf f n) (cond b n (suc n))) (suc n)) (cond a (leastOf f n) (cond b n (suc n)))
-    go true b d e k = record {
-      below = λ z. omega (arith, k .below refl);
-      passes = λ z. k .passes refl;
-      first = λ z. k .first refl;
-      none = λ z. absurd (true≢false (sym (lt-ltb (leastOf f n) (suc n) (omega (arith, k .below refl))) ∙ z));
-    }
-    go false true d e k = record {
-      below = λ z. omega arith;
-      passes = λ z. e;
-      first = λ z i l. k .none refl i l;
-      none = λ z. absurd (true≢false (sym (lt-ltb n (suc n) (omega arith)) ∙ z));
-    }
-    go false false d e k = record {
-      below = λ z. absurd (true≢false (sym z ∙ le-ltb (suc n) (suc n) (omega arith)));
-      passes = λ z. absurd (true≢false (sym z ∙ le-ltb (suc n) (suc n) (omega arith)));
-      first = λ z. absurd (true≢false (sym z ∙ le-ltb (suc n) (suc n) (omega arith)));
-      none = λ z i l. elim (eq-or-lt-of-le (le-of-suc-le-suc l)) [ inl q ↦ ap f q ∙ e | inr j ↦ k .none refl i j ];
-    }
+    go : (a b : Bool) → f n ≡ b → FirstBelow f n a (leastOf f n) → FirstBelow f (suc n) (ltb (cond a (leastOf f n) (cond b n (suc n))) (suc n)) (cond a (leastOf f n) (cond b n (suc n)))
+    go true b e k = rw (lt-ltb (leastOf f n) (suc n) (omega (arith, k .below refl))) (first-at f (suc n) (leastOf f n) (omega (arith, k .below refl)) (k .passes refl) (k .first refl))
+    go false true e k = rw (lt-ltb n (suc n) (omega arith)) (first-at f (suc n) n (omega arith) e (k .none refl))
+    go false false e k = rw (le-ltb (suc n) (suc n) (omega arith)) (first-none f (suc n) (suc n) (λ i l. elim (eq-or-lt-of-le (le-of-suc-le-suc l)) [ inl q ↦ ap f q ∙ e | inr j ↦ k .none refl i j ]))
 
 -- a test that some number below n passes has a first one
 least-of : (f : ℕ → Bool) (n : ℕ) → some n f ≡ true → FirstBelow f n true (leastOf f n)
-least-of f n e = go (ltb (leastOf f n) n) (least-first f n)
-  where
-    go : (a : Bool) → FirstBelow f n a (leastOf f n) → FirstBelow f n true (leastOf f n)
-    go true b = b
-    go false b = let s = some-found f n e in absurd (true≢false (sym (s .2) ∙ b .none refl (s .0) (s .1)))
+least-of f n e = scan-true f n (leastOf f n) e (least-first f n)
 
 -- there is a verdict, and the tests give it
-pub verdict-judged : (g : Grammar) → Proper g → (m : Marks) → FirstExact g m → (f : Table) → FollowExact g corrected f → Judged g (verdictOf g m f)
+pub verdict-judged : (g : Grammar) → Proper g → (m : Marks) → FirstExact g m → (f : Table) → FollowExact g corrected f → Judged g (verdictBy g m f)
 verdict-judged g ok m h f x = go (ltb (leastOf (ruleOf g m f) (g .rules)) (g .rules)) (least-first (ruleOf g m f) (g .rules))
   where
     go : (a : Bool) → FirstBelow (ruleOf g m f) (g .rules) a (leastOf (ruleOf g m f) (g .rules)) → Judged g

@@ -49,8 +49,8 @@ leastOf f zero = 0
 leastOf f (suc n) = cond (ltb (leastOf f n) n) (leastOf f n) (cond (f n) n (suc n))
 
 -- the verdict by the tests
-abbrev pub verdictOf : Grammar → Marks → Table → Verdict
-verdictOf g m f =
+abbrev pub verdictBy : Grammar → Marks → Table → Verdict
+verdictBy g m f =
     let r = leastOf (ruleOf g m f) (g .rules) in
     let p = leastOf (lowOf g m f r) (g .prods) in
     let q = leastOf (pairOf g m f p) (g .prods) in

@@ -37,12 +37,12 @@ def cost_length(g):
     return g.rules
 
 
-def need(g, tables, mode=1, rules=(), tokens=(), prods=()):
+def need(g, tables, mode=2, rules=(), tokens=(), prods=()):
     """The lowest refusal due of 1 to 11. The tables are pairs of a list and its length as a function of the grammar."""
     plain.check(g)
     if any(len(table) != length(g) for table, length in tables):
         raise Refused(7)
-    if mode not in (1, 2):
+    if mode != 2:
         raise Refused(8)
     plain.check_rule(g, *rules)
     if any(t >= len(g.costs) for t in tokens):
@@ -200,7 +200,7 @@ def follow_visit(g, mode, p, follow, first, empty, reached):
     need_follow(g, follow, first, empty, reached, mode=mode, prods=[p])
     held = rows(g, follow)
     read = rows(g, first), marks(empty, g.rules), marks(reached, g.rules)
-    changed = plain.visit_follow(g, mode, p, held, *read)
+    changed = plain.visit_follow(g, p, held, *read)
     put_rows(g, follow, held)
     return [int(changed)]
 
@@ -210,7 +210,7 @@ def follow_fill(g, mode, follow, first, empty, reached):
     reached_fill(g, reached)
     first_fill(g, first, empty)
     clear(follow)
-    put_rows(g, follow, plain.follows(g, mode))
+    put_rows(g, follow, plain.follows(g))
     return [0]
 
 
@@ -239,7 +239,7 @@ def job_slice(g, job, n, first, empty, follow, productive, cost, reached):
     """Of the tables only those of the job's kind are looked at."""
     plain.check(g)
     kind, at, _, _ = job
-    if kind > 4 or at >= len(g.owners):
+    if kind not in (0, 2, 3, 4) or at >= len(g.owners):
         raise Refused(17)
     if kind == 0:
         need_first(g, first, empty)
@@ -247,11 +247,11 @@ def job_slice(g, job, n, first, empty, follow, productive, cost, reached):
         made = worked(g, job, n, lambda p: plain.visit_first(g, p, held, vanish))
         put_rows(g, first, held)
         put(empty, 0, vanish, g.rules)
-    elif kind < 3:  # 1 and 2: the modes
+    elif kind == 2:
         need_follow(g, follow, first, empty, reached)
         held = rows(g, follow)
         read = rows(g, first), marks(empty, g.rules), marks(reached, g.rules)
-        made = worked(g, job, n, lambda p: plain.visit_follow(g, kind, p, held, *read))
+        made = worked(g, job, n, lambda p: plain.visit_follow(g, p, held, *read))
         put_rows(g, follow, held)
     elif kind == 3:
         need(g, [(productive, row_length)])

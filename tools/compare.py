@@ -7,16 +7,18 @@ held to their answers. Then, until the time is over, two processes take all smal
 random ones of each shape. In these rule 0 owns one production. A grammar in which it owns several, as an example does,
 is not given to the Rust, which builds none; ours is then held to tools/plain.py alone.
 
-FIRST, EMPTY, mode 1 FOLLOW and all paths must be equal; so must the costs where the Rust returns, and a sentence where
-it returns and no production used has a rule followed by a token or by a rule whose sentence is not empty. At such a
-place the Rust's sentence must be the one that taking the rest again gives. The list of all cheapest sentences must be
-that of the Rust's min_sentences, row by row, where it is short and the Rust returns. Where the Rust does not return, or
-panics, the grammar must have what the named difference says, worked out from the grammar alone; if it runs out of time
-without such a reason, it is asked again with more time, which is counted. What we answer there must be what the
-documents say. The reached rules must be rule 0 and those to which the Rust has a path from it; mode 2 FOLLOW must be
-what the documents say, and hold what the Rust's rule gives over the productions of reached rules. The profile, which
+FIRST, EMPTY and all paths must be equal; so must the costs where the Rust returns, and a sentence where it returns and
+no production used has a rule followed by a token or by a rule whose sentence is not empty. At such a place the Rust's
+sentence must be the one that taking the rest again gives. The list of all cheapest sentences must be that of the Rust's
+min_sentences, row by row, where it is short and the Rust returns. Where the Rust does not return, or panics, the
+grammar must have what the named difference says, worked out from the grammar alone; if it runs out of time without such
+a reason, it is asked again with more time, which is counted. What we answer there must be what the documents say. The
+reached rules must be rule 0 and those to which the Rust has a path from it. FOLLOW must be what the documents say, and
+the Rust's what its own rule gives: over all productions, with the next symbol alone read. Ours must hold what that rule
+gives over the productions of reached rules, so that a mark which it lacks comes from another rule. The profile, which
 the Rust has not, must be what the documents say. Each kind is counted, and each kind of difference shown with the
-smallest grammar that has it; the program exits with 1 if one is not explained.
+smallest grammar that has it; where FOLLOW of a grammar with a name differs, a line says so by the names of its text.
+The program exits with 1 if a difference is not explained.
 """
 import collections
 import concurrent.futures
@@ -32,8 +34,8 @@ sys.dont_write_bytecode = True
 import grammars
 import plain
 from block_text import TOP
-from named import SAID, named, refused, returned
-from reading import STEPS, Reading
+from named import SAID, named, refused, returned, texts
+from reading import STEPS, Reading, crate_follows
 
 ORACLE = [str(TOP / "target" / "oracle" / "oracle")]
 WORKERS = 2
@@ -42,12 +44,12 @@ UNEXPLAINED = "UNEXPLAINED "
 STOPPED = ("out of time", "out of memory")
 AGAIN = 20  # times the time for a grammar on which the Rust ran out of it without a reason
 PASSES, CLASHES = "profile: the grammar passes", "profile: the grammar clashes"
-# Whether FOLLOW of mode 2 has marks that the Rust has not, and whether the Rust has marks that it has not.
-MODE_2 = {
-    (False, False): "FOLLOW, mode 2: the same",
-    (True, False): "FOLLOW, mode 2: more, since the Rust looks one symbol ahead",
-    (False, True): "FOLLOW, mode 2: fewer, since the Rust counts the productions of rules that are not reached",
-    (True, True): "FOLLOW, mode 2: more and fewer, for both reasons",
+# Whether FOLLOW of ours has marks that the Rust has not, and whether the Rust has marks that ours has not.
+FOLLOW = {
+    (False, False): "FOLLOW: the same",
+    (True, False): "FOLLOW: more, since the Rust looks one symbol ahead",
+    (False, True): "FOLLOW: fewer, since the Rust counts the productions of rules that are not reached",
+    (True, True): "FOLLOW: more and fewer, for both reasons",
 }
 
 
@@ -100,8 +102,7 @@ def plain_answer(g, listed=()):
     return {
         "first": [sorted(held) for held in plain.firsts(g)],
         "empty": [int(r in empty) for r in rules],
-        "follow": [sorted(held) for held in plain.follows(g, 1)],
-        "corrected": [sorted(held) for held in plain.follows(g, 2)],
+        "follow": [sorted(held) for held in plain.follows(g)],
         "reached": [int(r in plain.reached(g)) for r in rules],
         "profile": plain.verdict(g),
         "path": [[int(plain.has_path(g, a, b)) for b in rules] for a in rules],
@@ -176,7 +177,7 @@ class Comparer(Comparison):
             self.unexplained(f"{kind}: differs", f"the Rust {rust}, ours {ours}")
 
     def compare(self, shape, name, g):
-        self.name, self.g, well = name, g, plain.refusal(g) == 0
+        self.name, self.g, self.rust, well = name, g, {}, plain.refusal(g) == 0
         self.shapes[shape] += 1
         if well:
             self.reading = Reading(g)
@@ -241,24 +242,37 @@ class Comparer(Comparison):
             self.unexplained("what is said of one grammar", f"{seen} and not {(rust, ours)}")
 
     def tables(self):
-        for kind, name in ("FIRST", "first"), ("EMPTY", "empty"), ("FOLLOW, mode 1", "follow"), ("paths", "path"):
+        for kind, name in ("FIRST", "first"), ("EMPTY", "empty"), ("paths", "path"):
             self.same(kind, self.rust[name], self.ours[name])
         self.same("reached rules, by paths from rule 0", [1] + self.rust["path"][0][1:], self.ours["reached"])
-        self.corrected()
+        self.follow()
         self.beyond()
 
-    def corrected(self):
-        """FOLLOW of mode 2, which the Rust has not."""
-        due, rust = plain.follows(self.g, 2), [set(held) for held in self.rust["follow"]]
-        kind = MODE_2[not_within(due, rust), not_within(rust, due)]
-        if self.ours["corrected"] != [sorted(held) for held in due]:
-            self.unexplained("FOLLOW, mode 2: ours is not the documents'", f"{self.ours['corrected']} and not {due}")
-        elif not_within(self.reading.counted_follow, due):
-            self.unexplained("FOLLOW, mode 2: a mark is lost that a reached rule gives", f"the Rust {rust}, ours {due}")
+    def follow(self):
+        """FOLLOW: ours by the documents, the Rust's by its own rule, and why they differ."""
+        due, rust = plain.follows(self.g), [set(held) for held in self.rust["follow"]]
+        all_rules, reached = (crate_follows(self.g, rules) for rules in (range(self.g.rules), plain.reached(self.g)))
+        kind = FOLLOW[not_within(due, rust), not_within(rust, due)]
+        if self.ours["follow"] != [sorted(held) for held in due]:
+            self.unexplained("FOLLOW: ours is not the documents'", f"{self.ours['follow']} and not {due}")
+        elif rust != all_rules:
+            self.unexplained("FOLLOW: the Rust's is not what its rule gives", f"{rust} and not {all_rules}")
+        elif not_within(reached, due):
+            self.unexplained("FOLLOW: a mark is lost that a reached rule gives", f"the Rust {rust}, ours {due}")
         elif due == rust:
             self.count(kind)
         else:
             self.differs(kind)
+
+    def follow_lines(self, names):
+        """A line on the first rule of the last grammar whose FOLLOW differs, by the names of its text; else none."""
+        words = {symbol: word for word, symbol in names.items()}
+        pairs = zip(self.rust.get("follow", ()), self.ours.get("follow", ()))
+        differing = [(r, pair) for r, pair in enumerate(pairs) if pair[0] != pair[1]]
+        for r, pair in differing[:1]:
+            rust, ours = (" ".join(words[t] for t in held) or "nothing" for held in pair)
+            more = f" (the first of {len(differing)} rules)" if len(differing) > 1 else ""
+            yield f"{self.name}: FOLLOW({words[plain.RULE + r]}): the Rust {rust}; here {ours}{more}"
 
     def beyond(self):
         """Production P, the path from rule R to 0 and that from 0 to R."""
@@ -396,27 +410,29 @@ def work(words, seed, deadline, worker):
 
 
 def compared(words, seconds, seed):
+    """What was counted, and the lines on FOLLOW of the grammars with names."""
     deadline = time.monotonic() + seconds
-    first = comparer(words)
-    names = set()
+    first, lines = comparer(words), []
+    names = {name: made.names for name, made in texts()}
+    missing = {said[0] for said in SAID} - {*names}
+    assert not missing, missing
     for name, g in named():
         first.compare("named", name, g)
-        names.add(name)
-    missing = {said[0] for said in SAID} - names
-    assert not missing, missing
+        lines += first.follow_lines(names[name])
     with concurrent.futures.ProcessPoolExecutor(WORKERS) as pool:
         for result in pool.map(functools.partial(work, words, seed, deadline), range(WORKERS)):
             first.add(result)
-    return first
+    return first, lines
 
 
 def main(words):
     seconds, seed = int(words[0]), int(words[1])
-    result = compared(words[2:], seconds, seed)
+    result, lines = compared(words[2:], seconds, seed)
     for counts in result.shapes, result.kinds:
         for name in sorted(counts):
             print(f"{counts[name]:8}  {name}")
         print()
+    print("where FOLLOW of a grammar with a name differs:", *lines, "", sep="\n")
     print("the smallest grammar of each difference:")
     for kind, (g, details) in sorted(result.smallest.items()):
         print(f"{kind}: {details}{grammars.shown(g)[:1000]}")

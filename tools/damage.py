@@ -44,7 +44,7 @@ LISTS = ["count_min_sentences", "min_sentence_at"]
 VISITS = ["cost_visit", "follow_visit"]
 REACHED = ["follow_visit", "follow_fill", "reached_fill"]
 VERDICTS = PASS, CLASH, NONE_SHARED = "pass", "clash", "clash without a shared token"
-TABLES = {0: (0, 1), 1: (0, 1, 2, 5), 2: (0, 1, 2, 5), 3: (3,), 4: (4,)}  # of a slice, by the job's kind
+TABLES = {0: (0, 1), 2: (0, 1, 2, 5), 3: (3,), 4: (4,)}  # of a slice, by the job's kind
 # The calls to draw from: more of those with many refusals or cases. File reads have the longest lists.
 DRAWN = [name for name in calls.CALLS if name != "read_blocks"] * 2 + SENTENCES * 6 + VISITS * 3 + ["read_blocks"] * 3
 DRAWN += ["write_blocks"] * 2 + ["follow_visit"] * 4 + LISTS * 4 + ["min_sentence_at"] * 4 + ["slice"] * 8
@@ -104,8 +104,13 @@ def any_production(draw, g):
     return draw.choice(own) if own and draw.random() < 0.25 else number_below(draw, len(g.owners))
 
 
-def one_or_two(draw):
-    """A mode or a version: 1 or 2 in most cases, else another number."""
+def any_mode(draw):
+    """A mode: 2 in most cases, else 1 or another number."""
+    return 2 if draw.random() < 0.85 else draw.choice((0, 1, 1, 3, MOST, draw.randint(0, MOST)))
+
+
+def any_version(draw):
+    """A version: 1 or 2 in most cases, else another number."""
     return draw.choice((1, 2)) if draw.random() < 0.85 else draw.choice((0, 3, MOST, draw.randint(0, MOST)))
 
 
@@ -187,7 +192,7 @@ def any_yes(draw, chance):
 def any_job(draw, g):
     """A record: a kind that there is in nine of ten, at the round's beginning, its last production or elsewhere, and in
     some done."""
-    kind = draw.randrange(5) if draw.random() < 0.9 else draw.choice((5, MOST, draw.randint(0, MOST)))
+    kind = draw.choice([*TABLES]) if draw.random() < 0.9 else draw.choice((1, 1, 5, MOST, draw.randint(0, MOST)))
     at = draw.choice((0, max(len(g.owners) - 1, 0))) if draw.random() < 0.4 else number_below(draw, len(g.owners))
     return [kind, at, any_yes(draw, 0.4), any_yes(draw, 0.12)]
 
@@ -212,8 +217,8 @@ PARAMETERS = {
     "rule": lambda draw, g, _: number_below(draw, g.rules),
     "token": lambda draw, g, _: number_below(draw, len(g.costs)),
     "prod": lambda draw, g, _: any_production(draw, g),
-    "mode": lambda draw, g, _: one_or_two(draw),
-    "version": lambda draw, g, _: one_or_two(draw),
+    "mode": lambda draw, g, _: any_mode(draw),
+    "version": lambda draw, g, _: any_version(draw),
     "marks": lambda draw, g, _: any_marks(draw, calls.marks_length(g)),
     "row": lambda draw, g, _: any_marks(draw, calls.row_length(g)),
     "reached": lambda draw, g, _: any_reached(draw, g),

@@ -1,15 +1,15 @@
 #!/usr/bin/env python3
 """Document 01 once more, plain and slow: sets, recursion and whole numbers of any size; of document 02 the versions of
-the block file, several exports in one grammar, that in mode 2 of FOLLOW only productions of reached rules count,
-all cheapest sentences, entries of COST that tell dear from unknown, and the profile of one-token readers. It is
-written from those texts, with the readings of their open points in docs/DECISIONS.md, and from no crate.
+the block file, several exports in one grammar, that for FOLLOW only productions of reached rules count, all cheapest
+sentences, entries of COST that tell dear from unknown, and the profile of one-token readers. It is written from those
+texts, with the readings of their open points in docs/DECISIONS.md, and from no crate.
 
     tools/plain.py report FILE         the report of a block file; '-' stands for standard input
 
 As a module it is there to be compared with. The tables follow the definitions and not the visits: what a rule may
 start with is found over a graph, and the cheapest costs are settled from the cheapest up (Knuth's way). Single
-visits are there beside them. A refusal is the exception Refused with its number. Tables are lists and sets of Python:
-their lengths cannot be wrong, so nothing gives 7.
+visits are there beside them. A refusal is the exception Refused with its number. Tables are lists and sets of Python,
+whose lengths cannot be wrong, and FOLLOW takes no mode here: nothing gives 7 or 8.
 """
 import functools
 import itertools
@@ -145,13 +145,13 @@ def productives(g):
 
 
 def leads(body, empty):
-    """The symbols before which everything may vanish, and whether the end is such a place."""
+    """The symbols before which everything may vanish."""
     found = []
     for s in body:
         found.append(s)
         if not vanishes([s], empty):
-            return found, False
-    return found, True
+            break
+    return found
 
 
 def firsts(g):
@@ -160,7 +160,7 @@ def firsts(g):
     empty = empties(g)
     links = {}
     for r, body in g.productions():
-        links.setdefault(RULE + r, set()).update(leads(body, empty)[0])
+        links.setdefault(RULE + r, set()).update(leads(body, empty))
     return [{s for s in linked(RULE + r, links) if s < RULE} for r in range(g.rules)]
 
 
@@ -178,36 +178,35 @@ def reached(g):
     return {0} | linked(0, rule_links(g))
 
 
-def follows(g, mode):
-    """FOLLOW of each rule, in the crate's mode (1), where all productions count, or corrected (2), where those of
-    reached rules do."""
+def begins(body, first, empty):
+    """The tokens that the forms which a body derives start with."""
+    return set().union(*(first[s - RULE] if s >= RULE else {s} for s in leads(body, empty)))
+
+
+def follows(g):
+    """FOLLOW of each rule: over the productions of reached rules, the tokens that what stands behind it may start with,
+    and FOLLOW of the owner where all of that can vanish."""
     check(g)
-    if mode not in (1, 2):
-        raise Refused(8)
-    return least_follow(g, mode, range(g.rules) if mode == 1 else reached(g))
-
-
-def least_follow(g, mode, counting):
-    """The least table that holds (rule 0, eof) and is closed under the mode's rule over the productions of the rules
-    that count."""
-    first, empty = firsts(g), empties(g)
+    first, empty, counting = firsts(g), empties(g), reached(g)
     own = [set() for _ in range(g.rules)]
     own[0].add(g.eof)
     heirs = {}  # the rules that have all of a rule's FOLLOW
     for r, body in g.productions():
         for k, a in enumerate(body if r in counting else []):
-            if a < RULE:
-                continue
-            after, past = leads(body[k + 1 :], empty)
-            for s in after[:1] if mode == 1 else after:
-                own[a - RULE] |= first[s - RULE] if s >= RULE else {s}
-            if past:
-                heirs.setdefault(r, set()).add(a - RULE)
-    follow = [set(held) for held in own]
-    for r in range(g.rules):
+            if a >= RULE:
+                own[a - RULE] |= begins(body[k + 1 :], first, empty)
+                if vanishes(body[k + 1 :], empty):
+                    heirs.setdefault(r, set()).add(a - RULE)
+    return handed_on(own, heirs)
+
+
+def handed_on(own, heirs):
+    """The least table that has each rule's own marks, and for the heirs of a rule all that it has."""
+    held = [set(marks) for marks in own]
+    for r, marks in enumerate(own):
         for heir in linked(r, heirs):
-            follow[heir] |= own[r]
-    return follow
+            held[heir] |= marks
+    return held
 
 
 class Clash(NamedTuple):
@@ -220,15 +219,10 @@ class Clash(NamedTuple):
     token: int
 
 
-def begins(body, first, empty):
-    """The tokens that the forms which a body derives start with."""
-    return set().union(*(first[s - RULE] if s >= RULE else {s} for s in leads(body, empty)[0]))
-
-
 def deciding(g):
-    """Of each production the next tokens by which a reader takes it: those that it may start with, and mode 2 FOLLOW of
-    its owner where it can vanish."""
-    first, empty, follow = firsts(g), empties(g), follows(g, 2)
+    """Of each production the next tokens by which a reader takes it: those that it may start with, and FOLLOW of its
+    owner where it can vanish."""
+    first, empty, follow = firsts(g), empties(g), follows(g)
     return [begins(body, first, empty) | (follow[r] if vanishes(body, empty) else set()) for r, body in g.productions()]
 
 
@@ -500,14 +494,10 @@ def visit_first(g, p, first, empty):
     return (first[r], r in empty) != before
 
 
-def visit_follow(g, mode, p, follow, first, empty, reached):
-    """One visit of FOLLOW. In mode 2 a production of a rule that is not among those held as reached changes nothing;
-    mode 1 does not look at these."""
-    check(g)
-    if mode not in (1, 2):
-        raise Refused(8)
+def visit_follow(g, p, follow, first, empty, reached):
+    """One visit of FOLLOW. A production of a rule that is not among those held as reached changes nothing."""
     body, r = production(g, p), g.owners[p]
-    if mode == 2 and r not in reached:
+    if r not in reached:
         return False
     before = [set(held) for held in follow]
     for k in reversed(range(len(body))):
@@ -516,7 +506,7 @@ def visit_follow(g, mode, p, follow, first, empty, reached):
         held, after = follow[body[k] - RULE], body[k + 1 :]
         if vanishes(after, empty):
             held |= follow[r]
-        for s in after[:1] if mode == 1 else after:
+        for s in after:
             held |= first[s - RULE] if s >= RULE else {s}
             if not vanishes([s], empty):
                 break
@@ -597,7 +587,7 @@ def report(data):
         g = read(data)
     except Refused as refused:
         return f"{refused}\n"
-    empty, first, follow, cost, productive = empties(g), firsts(g), follows(g, 2), costs(g), productives(g)
+    empty, first, follow, cost, productive = empties(g), firsts(g), follows(g), costs(g), productives(g)
     lines = [HEADING]
     for r in range(g.rules):
         sets = [" ".join(str(t) for t in sorted(held)) for held in (first[r], follow[r])]

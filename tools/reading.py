@@ -1,7 +1,6 @@
 """What document 01 says of the costs and sentences of a grammar, and what the loops of the Rust make of them: where
 they do not return, where they panic, and what they write; what document 02 says of lists of sentences, and how much
-work they are for the Rust; and what is left of the Rust's FOLLOW where only productions
-of reached rules count. All is worked out from the grammar alone."""
+work they are for the Rust; and the FOLLOW of the Rust. All is worked out from the grammar alone."""
 import collections
 import functools
 
@@ -15,6 +14,22 @@ STEPS = 100_000  # so many steps of min_sentence and of min_sentences fit well i
 
 def circle(links):
     return any(r in plain.linked(r, links) for r in links)
+
+
+def crate_follows(g, counting):
+    """FOLLOW by the Rust's rule, over the productions of the rules that count: of what stands behind a rule the next
+    symbol alone is read, and FOLLOW of the owner where all of that can vanish. In the Rust all rules count."""
+    first, empty = plain.firsts(g), plain.empties(g)
+    own = [set() for _ in range(g.rules)]
+    own[0].add(g.eof)
+    heirs = {}  # the rules that have all of a rule's FOLLOW
+    for r, body in g.productions():
+        for k, a in enumerate(body if r in counting else []):
+            if a >= RULE:
+                own[a - RULE] |= plain.begins(body[k + 1 : k + 2], first, empty)
+                if plain.vanishes(body[k + 1 :], empty):
+                    heirs.setdefault(r, set()).add(a - RULE)
+    return plain.handed_on(own, heirs)
 
 
 class Reading:
@@ -33,11 +48,6 @@ class Reading:
         self.choices = plain.cheapest(g, fit)
         self.counts = plain.list_counts(self.choices)
         self.longest, self.made = {}, {}
-
-    @functools.cached_property
-    def counted_follow(self):
-        """FOLLOW by the Rust's rule, the next symbol alone, over the productions of reached rules."""
-        return plain.least_follow(self.g, 1, plain.reached(self.g))
 
     def cost(self, r):
         if r not in self.known:

@@ -6,7 +6,7 @@
 The Rust's productions are the grammar's, which the oracle has seen to: a line for each, and then one for each rule.
 The sample is those well-formed grammars of tools/named.py that the Rust builds, and of each shape of tools/grammars.py
 the first so many from one seed whose lines take no more bytes than SIZES says; at_limits and most_rules are too long
-for it. A rule's line has what the Rust gave: EMPTY, FIRST, FOLLOW, the rules to which there is a path; its cost, if the
+for it. A rule's line has what the Rust gave: EMPTY, FIRST, the rules to which there is a path; its cost, if the
 costs came back; and its sentence, if that came back and no production used has the place at which document 01 says that
 the Rust's differs (only this is worked out here, by tools/reading.py; no answer is). What did not come back stays
 empty, and `stdin` says of each rule which it is.
@@ -23,7 +23,7 @@ import reading
 
 FOLDER = compare.TOP / "crates" / "replay"
 COST, COST_AND_SENTENCE, SENTENCE = 1, 2, 3
-HEADING = "rule,empty,first,follow,paths,cost,sentence\n"
+HEADING = "rule,empty,first,paths,cost,sentence\n"
 SEED = 1
 SIZES = {shape: (2000, 16) for shape in grammars.shapes if shape not in grammars.large} | {"one_limit": (20000, 2)}
 
@@ -49,7 +49,7 @@ def lines(asks, rust):
         to = [b for b, held in enumerate(rust["path"][r]) if held]
         cost = rust["costs"]["returned"][r] if ask in (COST, COST_AND_SENTENCE) else ""
         sentence = rust["sentences"][r]["returned"] if ask in (COST_AND_SENTENCE, SENTENCE) else []
-        sets = [numbers(held) for held in (rust["first"][r], rust["follow"][r], to)]
+        sets = [numbers(held) for held in (rust["first"][r], to)]
         yield ",".join([str(r), str(rust["empty"][r]), *sets, str(cost), numbers(sentence)]) + "\n"
 
 

@@ -102,14 +102,13 @@ class Calls(unittest.TestCase):
             self.assertEqual(row, [9] * length)
 
     def test_dead_rules(self):
-        for mode, held in (1, 6), (2, 4):
-            tables = [9] * 4, [9] * 4, [9], [9]
-            self.assertEqual(calls.answer("follow_fill", [DEAD, mode, *tables]), [0, 0])
-            self.assertEqual(tables, ([4, 4, held, 0], [1, 1, 1, 1], [0], [7]))
+        tables = [9] * 4, [9] * 4, [9], [9]
+        self.assertEqual(calls.answer("follow_fill", [DEAD, 2, *tables]), [0, 0])
+        self.assertEqual(tables, ([4, 4, 4, 0], [1, 1, 1, 1], [0], [7]))
         # what counts is the lent row: with the bit of U set, its production counts
-        for mode, row, changed in (2, 7, 0), (2, 15, 1), (2, 8, 1), (2, 0, 0), (2, 1 << 31, 0), (1, 0, 1):
+        for row, changed in (7, 0), (15, 1), (8, 1), (0, 0), (1 << 31, 0):
             follow, reached = [4, 4, 4, 0], [row]
-            self.assertEqual(calls.answer("follow_visit", [DEAD, mode, 3, follow, [1] * 4, [0], reached]), [0, changed])
+            self.assertEqual(calls.answer("follow_visit", [DEAD, 2, 3, follow, [1] * 4, [0], reached]), [0, changed])
             self.assertEqual((follow, reached), ([4, 4, 4 + 2 * changed, 0], [row]))
 
     def test_profile(self):
@@ -158,15 +157,31 @@ class Calls(unittest.TestCase):
             self.assertEqual(calls.answer("count_min_sentences", [g, 9, *wrong]), [7, 0])
             self.assertEqual(calls.answer("min_sentence_at", [g, 9, 9, *wrong, out]), [7, 0])
 
-    def test_order(self):
-        tables = [0] * 3, [0] * 4, [0], [0]
-        self.assertEqual(calls.answer("follow_visit", [G1, 3, 99, *tables]), [7, 0])
-        self.assertEqual(calls.answer("follow_visit", [G1, 3, 99, [0] * 4, *tables[1:]]), [8, 0])
-        self.assertEqual(calls.answer("follow_visit", [G1, 1, 6, [0] * 4, *tables[1:]]), [11, 0])
-        for mode in 1, 2, 3:
-            for row in [], [0, 0]:
-                self.assertEqual(calls.answer("follow_visit", [G1, mode, 99, [0] * 4, [0] * 4, [0], row]), [7, 0])
-                self.assertEqual(calls.answer("follow_fill", [G1, mode, [0] * 4, [0] * 4, [0], row]), [7, 0])
+    def test_modes(self):
+        """7 before 8, 8 before 11; the tables stay as they are."""
+        tables = [9] * 4, [9] * 4, [9], [9]
+        for mode in 0, 1, 3, 257, 258, 65535:
+            self.assertEqual(calls.answer("follow_fill", [G1, mode, *tables]), [8, 0])
+            for p in 0, 6:
+                self.assertEqual(calls.answer("follow_visit", [G1, mode, p, *tables]), [8, 0])
+        self.assertEqual(calls.answer("follow_visit", [G1, 2, 6, *tables]), [11, 0])
+        self.assertEqual(tables, ([9] * 4, [9] * 4, [9], [9]))
+        for mode, at in itertools.product((1, 2, 3), range(4)):
+            for other in tables[at][1:], tables[at] + [9]:
+                wrong = [*tables[:at], other, *tables[at + 1 :]]
+                self.assertEqual(calls.answer("follow_visit", [G1, mode, 6, *wrong]), [7, 0])
+                self.assertEqual(calls.answer("follow_fill", [G1, mode, *wrong]), [7, 0])
+
+    def test_kinds(self):
+        """17 for a kind that there is not, before 7; record and tables stay as they are."""
+        tables = [9] * 4, [9], [9] * 4, [9], [9] * 4, [9]
+        for kind, at, number in (1, 0, 17), (1, 5, 17), (5, 0, 17), (65535, 0, 17), (2, 6, 17), (1, 6, 17), (2, 0, 0):
+            for changed, done, n in itertools.product((0, 1), (0, 1), (0, 9)):
+                job, lent = [kind, at, changed, done], [each[:] for each in tables]
+                self.assertEqual(calls.answer("slice", [G1, job, n, *lent])[0], number)
+                if number:
+                    self.assertEqual((job, tuple(lent)), ([kind, at, changed, done], tables))
+                self.assertEqual(calls.answer("slice", [G1, [kind, at, changed, done], n, *[[]] * 6])[0], number or 7)
 
     def test_production(self):
         self.assertEqual(calls.answer("production", [G1, 3]), [0, 4, 2])

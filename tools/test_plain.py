@@ -1,6 +1,7 @@
 #!/usr/bin/env python3
 """Tests of plain.py: document 01's lines, the examples' reports, the refusals, and small random grammars held to the
-definitions by search. Run alone, or with the others of this folder: python3 -m unittest discover -s tools"""
+definitions by search; and of reading.py's FOLLOW. Run alone, or with the others of this folder:
+python3 -m unittest discover -s tools"""
 import collections
 import itertools
 import pathlib
@@ -10,7 +11,9 @@ import sys
 import unittest
 
 sys.dont_write_bytecode = True
+import named
 import plain
+import reading
 from plain import RULE, Grammar, Refused
 
 EXAMPLES = pathlib.Path(__file__).resolve().parent.parent / "examples"
@@ -95,30 +98,24 @@ def total(g, cost, body):
     return sum(cost[s - RULE] if s >= RULE else g.costs[s] for s in body)
 
 
-def closed_follow(g, mode):
-    """The least table closed under FOLLOW's rules, by rounds, in document 01's words; in mode 2 over the productions of
-    rules that are rule 0 or have a path from it, in document 02's."""
+def closed_follow(g):
+    """The least table closed under FOLLOW's rules, by rounds, in document 01's words, over the productions of rules
+    that are rule 0 or have a path from it, in document 02's."""
     first, empty = plain.firsts(g), plain.empties(g)
     table = {(0, len(g.costs) - 1)}
-    counting = [(r, body) for r, body in g.productions() if mode == 1 or r == 0 or plain.has_path(g, 0, r)]
+    counting = [(r, body) for r, body in g.productions() if r == 0 or plain.has_path(g, 0, r)]
     while True:
         more = set()
         for r, body in counting:
             ends = {t for a, t in table if a == r}
             for k, a in enumerate(body):
-                after = body[k + 1 :]
+                after, add = body[k + 1 :], set()
                 if a < RULE:
                     continue
-                if mode == 1:
-                    add = set() if not after else {after[0]} if after[0] < RULE else first[after[0] - RULE]
-                    if all(s >= RULE and s - RULE in empty for s in after):
-                        add = add | ends
-                else:
-                    add = set()
-                    while after and after[0] >= RULE and after[0] - RULE in empty:
-                        add = add | first[after[0] - RULE]
-                        after = after[1:]
-                    add = add | (ends if not after else {after[0]} if after[0] < RULE else first[after[0] - RULE])
+                while after and after[0] >= RULE and after[0] - RULE in empty:
+                    add = add | first[after[0] - RULE]
+                    after = after[1:]
+                add = add | (ends if not after else {after[0]} if after[0] < RULE else first[after[0] - RULE])
                 more |= {(a - RULE, t) for t in add}
         if more <= table:
             return [{t for a, t in table if a == r} for r in range(g.rules)]
@@ -190,9 +187,9 @@ class Plain(unittest.TestCase):
     def test_lines_of_document_01(self):
         g1, g2, g3, g4, g6 = map(example, ("g1", "g2", "g3", "g4", "g6"))
         self.assertEqual(plain.firsts(g1)[1], {0, 2})
-        self.assertEqual(plain.follows(g1, 2)[2], {0})
+        self.assertEqual(plain.follows(g1)[2], {0})
         self.assertEqual((plain.costs(g1)[1], plain.sentence(g1, 0)), (1, [0]))
-        self.assertEqual((plain.follows(g2, 1)[2], plain.follows(g2, 2)[2]), ({1}, {1, 2}))
+        self.assertEqual(plain.follows(g2)[2], {1, 2})
         self.assertEqual((plain.costs(g3)[1], refused(plain.sentence, g3, 1)), (1, 14))
         self.assertEqual((plain.has_path(g3, 1, 1), plain.has_path(g3, 0, 0)), (True, False))
         self.assertEqual((plain.firsts(g4)[1], refused(plain.sentence_cost, g4, 1)), (set(), 12))
@@ -218,13 +215,35 @@ class Plain(unittest.TestCase):
     def test_dead_rules(self):
         g = example("dead")
         self.assertEqual(plain.reached(g), {0, 1, 2})
-        self.assertEqual(plain.follows(g, 1), [{2}, {2}, {1, 2}, set()])
-        self.assertEqual(plain.follows(g, 2), [{2}, {2}, {2}, set()])
-        self.assertEqual(standing(g, 5), plain.follows(g, 2))
+        self.assertEqual(plain.follows(g), [{2}, {2}, {2}, set()])
+        self.assertEqual(standing(g, 5), plain.follows(g))
         # start: S; start: U: two exports, and both are reached
         both = exported(g, [RULE + 3])
         self.assertEqual(plain.reached(both), {0, 1, 2, 3})
-        self.assertEqual(plain.follows(both, 2), [{2}, {2}, {1, 2}, {2}])
+        self.assertEqual(plain.follows(both), [{2}, {2}, {1, 2}, {2}])
+
+    def test_what_is_said_of_follow(self):
+        grammars = dict(named.named())
+        for name, part, rust, ours_part, ours in named.SAID:
+            word, *rule = part.split()
+            if word == "follow":
+                with self.subTest(name):
+                    self.assertEqual(ours_part, part)
+                    g, r = grammars[name], int(*rule)
+                    self.assertEqual(reading.crate_follows(g, range(g.rules))[r], {*rust})
+                    self.assertEqual(plain.follows(g)[r], {*ours})
+
+    def test_the_rusts_follow(self):
+        g = example("dead")
+        self.assertEqual(reading.crate_follows(g, range(4)), [{2}, {2}, {1, 2}, set()])
+        self.assertEqual(reading.crate_follows(g, plain.reached(g)), [{2}, {2}, {2}, set()])
+        # start: S; S: A B B; A: a; B: b; B: nothing: A has eof of S, past both
+        S, A, B = RULE + 1, RULE + 2, RULE + 3
+        g = Grammar(4, [0, 1, 2, 3, 3], [0, 1, 4, 5, 6, 6], [S, A, B, B, 0, 1], [1] * 4)
+        self.assertEqual((reading.crate_follows(g, range(4))[2], plain.follows(g)[2]), ({1, 3}, {1, 3}))
+        # with c behind them A has it, but not by the Rust's rule
+        g = Grammar(4, [0, 1, 2, 3, 3], [0, 1, 5, 6, 7, 7], [S, A, B, B, 2, 0, 1], [1] * 4)
+        self.assertEqual((reading.crate_follows(g, range(4))[2], plain.follows(g)[2]), ({1}, {1, 2}))
 
     def test_edges_of_document_01(self):
         ring = [RULE + 1] + [RULE + r + 1 for r in range(1, 512)]
@@ -262,7 +281,6 @@ class Plain(unittest.TestCase):
                     self.assertEqual(plain.refusal(other), number)
         self.assertEqual(refused(plain.production, g, 6), 11)
         self.assertEqual(plain.production(g, 0), [RULE + 2, 0, RULE + 3])
-        self.assertEqual(refused(plain.follows, g, 3), 8)
         self.assertEqual([refused(plain.has_path, g, 4, 0), refused(plain.has_path, g, 0, 4)], [9, 9])
         self.assertEqual(refused(plain.sentence, g, 4), 9)
 
@@ -313,9 +331,8 @@ class Plain(unittest.TestCase):
                 self.assertEqual(plain.empties(g), {r for r, fs in enumerate(derived) if () in fs})
                 for a, b in itertools.product(range(g.rules), repeat=2):
                     self.assertEqual(plain.has_path(g, a, b), any(RULE + b in f for f in derived[a]))
-                for mode in 1, 2:
-                    self.assertEqual(plain.follows(g, mode), closed_follow(g, mode))
-                self.assertEqual(plain.follows(g, 2), standing(g, 7))
+                self.assertEqual(plain.follows(g), closed_follow(g))
+                self.assertEqual(plain.follows(g), standing(g, 7))
                 paid = sentence_costs(g, 60)
                 self.assertEqual(plain.productives(g), {r for r, held in enumerate(paid) if held})
                 self.assertEqual(plain.costs(g), [min(held, default=65537) for held in paid])
@@ -324,12 +341,9 @@ class Plain(unittest.TestCase):
         first, empty, follow, productive, cost = plain.cleared(g)
         settled(g, dice, lambda p, *held: plain.visit_first(g, p, *held), first, empty)
         self.assertEqual((first, empty), (plain.firsts(g), plain.empties(g)))
-        for mode in 1, 2:
-            follow = plain.cleared(g)[2]
-            visit = lambda p, held: plain.visit_follow(g, mode, p, held, first, empty, plain.reached(g))
-            settled(g, dice, visit, follow)
-            self.assertEqual(follow, plain.follows(g, mode))
-            self.assertEqual(follow, closed_follow(g, mode))
+        settled(g, dice, lambda p, held: plain.visit_follow(g, p, held, first, empty, plain.reached(g)), follow)
+        self.assertEqual(follow, plain.follows(g))
+        self.assertEqual(follow, closed_follow(g))
         settled(g, dice, lambda p, held: plain.visit_productive(g, p, held), productive)
         self.assertEqual(productive, plain.productives(g))
         settled(g, dice, lambda p, held: plain.visit_cost(g, p, held), cost)
@@ -358,7 +372,7 @@ class Plain(unittest.TestCase):
         g = Grammar(3, [0, 1, 1, 2], [0, 1, 3, 4, 5], [RULE + 1, RULE + 1, RULE + 2, 0, 1], [1, 1, 1])
         first, empty, follow = plain.firsts(g), plain.empties(g), [{2}, {2}, set()]
         for changed, held in (True, [{2}, {1, 2}, {2}]), (True, [{2}, {1, 2}, {1, 2}]), (False, [{2}, {1, 2}, {1, 2}]):
-            self.assertEqual(plain.visit_follow(g, 2, 1, follow, first, empty, {0, 1, 2}), changed)
+            self.assertEqual(plain.visit_follow(g, 1, follow, first, empty, {0, 1, 2}), changed)
             self.assertEqual(follow, held)
 
     def test_profile_of_the_examples(self):

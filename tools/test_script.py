@@ -135,7 +135,8 @@ class Case:
         return [f"refused {refusal}"] if refusal else values
 
     def sliced(self, n):
-        """One slice. The tables of the job's kind are lent, of the others none."""
+        """One slice. The tables of the job's kind are lent, of the others none; kind 1, which is refused, has those of
+        FOLLOW, and any other that there is not COST."""
         by_name = {"first": [], "empty": [], "follow": [], "productive": [], "cost": [], "reached": []}
         if self.job[0] == 0:
             by_name |= {"first": self.a, "empty": self.b}

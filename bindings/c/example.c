@@ -1,4 +1,4 @@
-/* Prints, for each rule of a block file, the tokens that can follow it (FOLLOW, corrected):
+/* Prints, for each rule of a block file, the tokens that can follow it (FOLLOW):
  *
  *     example FILE
  */

@@ -54,9 +54,11 @@ static const char *const tables_of[OPS] = {
     "",  "",  "T", "E", "TE",   "TE",   "TE",   "",       "E",  "E",   "E",   "C", "C",
     "C", "C", "E", "T", "TTEE", "TTEE", "TTEE", "TETECE", "CC", "CCC", "CCC", ""};
 
-/* What a job fills, and the tables of a slice that are of each kind, in the order of that kind's own calls. */
-enum { JOB_FIRST, JOB_FOLLOW_1, JOB_FOLLOW_2, JOB_PRODUCTIVE, JOB_COST, KINDS };
-static const char *const kind_tables[KINDS] = {"01", "2015", "2015", "3", "4"};
+/* What a job fills, and the tables of a slice that are of each kind, in the order of that kind's own calls. A number
+ * without tables is no kind. */
+enum { JOB_FIRST = 0, JOB_FOLLOW = 2, JOB_PRODUCTIVE = 3, JOB_COST = 4, KINDS };
+static const char *const kind_tables[KINDS] = {
+    [JOB_FIRST] = "01", [JOB_FOLLOW] = "2015", [JOB_PRODUCTIVE] = "3", [JOB_COST] = "4"};
 
 /* A job: its kind, its next production, whether this round changed anything, whether it is done. */
 typedef struct {
@@ -158,30 +160,28 @@ static int visit_first(const grammar *g, size_t p, uint32_t *first, uint32_t *em
 }
 
 /* FOLLOW's rule for the rule symbol at place i of production p. */
-static int step_follow(const grammar *g, size_t p, size_t i, int mode, uint32_t *follow, const uint32_t *first,
+static int step_follow(const grammar *g, size_t p, size_t i, uint32_t *follow, const uint32_t *first,
                        const uint32_t *empty) {
-    size_t w = width(g), end = g->starts[p + 1], j;
+    size_t w = width(g), end = g->starts[p + 1], last = i + 1;
     uint32_t *to = follow + (g->symbols[i] - RULE) * w;
     int changed = 0;
-    for (j = i + 1; j < end && g->symbols[j] >= RULE && marked(empty, g->symbols[j] - RULE); j++)
-        ;
-    if (j == end) changed |= join(to, follow + g->owners[p] * w, g->tokens);
+    while (last < end && g->symbols[last] >= RULE && marked(empty, g->symbols[last] - RULE)) last++;
+    if (last == end) changed |= join(to, follow + g->owners[p] * w, g->tokens);
     /* the walk adds places i+1 up to and with `last` */
-    size_t last = mode == 1 ? i + 1 : j;
-    for (j = i + 1; j <= last && j < end; j++) {
+    for (size_t j = i + 1; j <= last && j < end; j++) {
         uint16_t s = g->symbols[j];
         changed |= s < RULE ? mark(to, s) : join(to, first + (s - RULE) * w, g->tokens);
     }
     return changed;
 }
 
-/* In mode 2 a production of a rule that the reached row does not mark changes nothing; mode 1 does not read the row. */
-static int visit_follow(const grammar *g, size_t p, int mode, uint32_t *follow, const uint32_t *first,
-                        const uint32_t *empty, const uint32_t *reached) {
+/* A production of a rule that the reached row does not mark changes nothing. */
+static int visit_follow(const grammar *g, size_t p, uint32_t *follow, const uint32_t *first, const uint32_t *empty,
+                        const uint32_t *reached) {
     int changed = 0;
-    if (mode == 2 && !marked(reached, g->owners[p])) return 0;
+    if (!marked(reached, g->owners[p])) return 0;
     for (size_t i = g->starts[p + 1]; i-- > g->starts[p];)
-        if (g->symbols[i] >= RULE) changed |= step_follow(g, p, i, mode, follow, first, empty);
+        if (g->symbols[i] >= RULE) changed |= step_follow(g, p, i, follow, first, empty);
     return changed;
 }
 
@@ -276,14 +276,13 @@ static void fill_reached(const grammar *g, uint32_t *reached) {
         if (r == 0 || path(g, 0, r)) mark(reached, r);
 }
 
-static void fill_follow(const grammar *g, int mode, uint32_t *follow, uint32_t *first, uint32_t *empty,
-                        uint32_t *reached) {
+static void fill_follow(const grammar *g, uint32_t *follow, uint32_t *first, uint32_t *empty, uint32_t *reached) {
     fill_reached(g, reached);
     fill_first(g, first, empty);
     clear_follow(g, follow);
     for (int again = 1; again;) {
         again = 0;
-        for (size_t p = 0; p < g->prods; p++) again |= visit_follow(g, p, mode, follow, first, empty, reached);
+        for (size_t p = 0; p < g->prods; p++) again |= visit_follow(g, p, follow, first, empty, reached);
     }
 }
 
@@ -562,10 +561,8 @@ static int visit_of(const grammar *g, const record *job, uint32_t *const *t) {
     switch (job->kind) {
     case JOB_FIRST:
         return visit_first(g, job->next, t[0], t[1]);
-    case JOB_FOLLOW_1:
-        return visit_follow(g, job->next, 1, t[2], t[0], t[1], t[5]);
-    case JOB_FOLLOW_2:
-        return visit_follow(g, job->next, 2, t[2], t[0], t[1], t[5]);
+    case JOB_FOLLOW:
+        return visit_follow(g, job->next, t[2], t[0], t[1], t[5]);
     case JOB_PRODUCTIVE:
         return visit_productive(g, job->next, t[3]);
     default:
@@ -588,10 +585,12 @@ static result slice(call *c) {
     return answered(made);
 }
 
+static int is_kind(uint16_t kind) { return kind < KINDS && kind_tables[kind]; }
+
 /* Whether table i of a call has to be of its exact length: of a slice those of the job's kind, of other calls all. */
 static int due(const call *c, size_t i) {
     if (c->op != SLICE) return 1;
-    if (c->job.kind >= KINDS) return 0;
+    if (!is_kind(c->job.kind)) return 0;
     for (const char *of = kind_tables[c->job.kind]; *of; of++)
         if (*of == (char)('0' + i)) return 1;
     return 0;
@@ -607,10 +606,10 @@ static uint32_t refusal_of(const call *c) {
                c->op == FOLLOW_VISIT;
     if (c->op == WRITE_BLOCKS && c->version != 1 && c->version != 2) return 26;
     if (number) return number;
-    if (c->op == SLICE && (c->job.kind >= KINDS || c->job.next >= g->prods)) return 17;
+    if (c->op == SLICE && (!is_kind(c->job.kind) || c->job.next >= g->prods)) return 17;
     for (size_t i = 0; i < strlen(tables_of[c->op]); i++)
         if (due(c, i) && c->table_len[i] != length_of(tables_of[c->op][i], g)) return 7;
-    if ((c->op == FOLLOW_VISIT || c->op == FOLLOW_FILL) && c->mode != 1 && c->mode != 2) return 8;
+    if ((c->op == FOLLOW_VISIT || c->op == FOLLOW_FILL) && c->mode != 2) return 8;
     if (rule && c->rule >= g->rules) return 9;
     if (c->op == HAS_PATH && c->to >= g->rules) return 9;
     if (c->op == MARK && c->token >= g->tokens) return 10;
@@ -672,12 +671,12 @@ static result model(call *c) {
         clear_follow(g, a);
         return r;
     case FOLLOW_VISIT:
-        return answered((uint32_t)visit_follow(g, c->prod, c->mode, a, b, d, e));
+        return answered((uint32_t)visit_follow(g, c->prod, a, b, d, e));
     case FOLLOW_FILL:
-        fill_follow(g, c->mode, a, b, d, e);
+        fill_follow(g, a, b, d, e);
         return r;
     case PROFILE:
-        fill_follow(g, 2, a, b, d, e);
+        fill_follow(g, a, b, d, e);
         return profile(g, c->table);
     case SLICE:
         return slice(c);

@@ -272,7 +272,8 @@ static void say_job(void) {
 }
 
 /* By the kind of a job, the lists that are lent as FIRST, EMPTY, FOLLOW, PRODUCTIVE, COST and the reached row: its own
- * tables, in the order of its visit; of the others none. A kind that there is not has those of the last. */
+ * tables, in the order of its visit; of the others none. Kind 1, which is refused, has those of FOLLOW, which a saved
+ * job of it comes with; any other that there is not has those of the last. */
 enum { KINDS = 5, TABLES = 6 };
 static const int tables[KINDS][TABLES] = {
     {A, B, NONE, NONE, NONE, NONE},

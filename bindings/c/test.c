@@ -333,11 +333,15 @@ static uint32_t word(void) {
 /* The largest file, and some bytes more. */
 enum { ROOM = 98 * BLOCK + 100 };
 
+/* The kinds of jobs. */
+enum { JOBS = 4 };
+static const uint16_t job_kinds[JOBS] = {JOB_FIRST, JOB_FOLLOW, JOB_PRODUCTIVE, JOB_COST};
+
 /* A call on the grammar at hand, its tables of the right lengths and full of random words, version 1, room for any
  * file, and a slice of a new job of any kind. */
 static call make(op which) {
-    call c = {.op = which, .g = g, .mode = 1, .version = 1, .out = output, .out_len = 100, .bytes = bytes};
-    c.bytes_len = ROOM, c.job.kind = (uint16_t)below(KINDS), c.n = below(20);
+    call c = {.op = which, .g = g, .mode = 2, .version = 1, .out = output, .out_len = 100, .bytes = bytes};
+    c.bytes_len = ROOM, c.job.kind = job_kinds[below(JOBS)], c.n = below(20);
     for (size_t i = 0; i < strlen(tables_of[which]); i++) {
         c.table[i] = words[i];
         c.table_len[i] = length_of(tables_of[which][i], &g);
@@ -348,10 +352,9 @@ static call make(op which) {
     return c;
 }
 
-static result fill(op which, uint16_t mode) {
+static void fill(op which) {
     call c = make(which);
-    c.mode = mode;
-    return run(&c);
+    run(&c);
 }
 
 /* The tokens that a filled table has for a rule, as bits; by queries. */
@@ -375,22 +378,20 @@ static uint32_t rule_row(int table) {
     return bits;
 }
 
-static void follow_is(uint16_t mode, uint16_t rule, uint32_t bits) {
-    fill(FOLLOW_FILL, mode);
+static void follow_is(uint16_t rule, uint32_t bits) {
+    fill(FOLLOW_FILL);
     expect("FOLLOW", row(rule), bits);
 }
 
 static void reached_is(uint32_t bits) {
-    fill(REACHED_FILL, 0);
+    fill(REACHED_FILL);
     expect("reached", words[0][0], bits);
     expect("reached", rule_row(0), bits);
-    for (uint16_t mode = 1; mode < 3; mode++) {
-        fill(FOLLOW_FILL, mode);
-        expect("reached by FOLLOW's fill", words[3][0], bits);
-    }
+    fill(FOLLOW_FILL);
+    expect("reached by FOLLOW's fill", words[3][0], bits);
 }
 
-/* The profile of the grammar at hand. It leaves its tables as FOLLOW's fill of mode 2 does. */
+/* The profile of the grammar at hand. It leaves its tables as FOLLOW's fill does. */
 static result profiled(void) {
     enum { OWN = 4 };
     static uint32_t left[OWN][512 * 16];
@@ -398,7 +399,7 @@ static result profiled(void) {
     result r = run(&c);
     for (int i = 0; i < OWN; i++) memcpy(left[i], words[i], 4 * c.table_len[i]);
     expect("profile's refusal", r.refusal, 0);
-    fill(FOLLOW_FILL, 2);
+    fill(FOLLOW_FILL);
     for (int i = 0; i < OWN; i++) expect("profile's tables", memcmp(left[i], words[i], 4 * c.table_len[i]) == 0, 1);
     return r;
 }
@@ -418,7 +419,7 @@ static void clash_is(uint32_t rule, uint32_t lower, uint32_t higher, uint32_t to
 }
 
 static void first_is(uint16_t rule, uint32_t bits) {
-    fill(FIRST_FILL, 0);
+    fill(FIRST_FILL);
     expect("FIRST", row(rule), bits);
 }
 
@@ -429,7 +430,7 @@ static void cost_is(uint16_t rule, uint32_t refusal, uint32_t value) {
     result r = run(&c);
     expect("cost", r.refusal, refusal);
     expect("cost", r.field[0], value);
-    fill(COST_FILL, 0);
+    fill(COST_FILL);
     expect("COST", words[0][rule], refusal == 12 ? BOLTMARROW_COST_UNKNOWN : refusal ? BOLTMARROW_COST_DEAR : value);
 }
 
@@ -481,7 +482,7 @@ static void path_is(uint16_t from, uint16_t to, uint32_t yes) {
 
 /* A clear or a fill of a kind, on those of a slice's tables that are its. */
 static void own(op which, uint16_t kind, uint32_t *const *tables) {
-    call c = {.op = which, .g = g, .mode = kind};
+    call c = {.op = which, .g = g, .mode = 2};
     for (size_t i = 0; i < strlen(tables_of[which]); i++) {
         c.table[i] = tables[kind_tables[kind][i] - '0'];
         c.table_len[i] = length_of(tables_of[which][i], &g);
@@ -489,8 +490,12 @@ static void own(op which, uint16_t kind, uint32_t *const *tables) {
     expect("clear or fill of a kind", run(&c).refusal, 0);
 }
 
-static const op clear_of[KINDS] = {FIRST_CLEAR, FOLLOW_CLEAR, FOLLOW_CLEAR, PRODUCTIVE_CLEAR, COST_CLEAR};
-static const op fill_of[KINDS] = {FIRST_FILL, FOLLOW_FILL, FOLLOW_FILL, PRODUCTIVE_FILL, COST_FILL};
+static const op clear_of[KINDS] = {
+    [JOB_FIRST] = FIRST_CLEAR, [JOB_FOLLOW] = FOLLOW_CLEAR,
+    [JOB_PRODUCTIVE] = PRODUCTIVE_CLEAR, [JOB_COST] = COST_CLEAR};
+static const op fill_of[KINDS] = {
+    [JOB_FIRST] = FIRST_FILL, [JOB_FOLLOW] = FOLLOW_FILL,
+    [JOB_PRODUCTIVE] = PRODUCTIVE_FILL, [JOB_COST] = COST_FILL};
 
 /* The tables of a kind as its fill leaves them. */
 static uint32_t full[TABLES][512 * 16];
@@ -592,11 +597,11 @@ static void jobs(void) {
     uint32_t prods = (uint32_t)g.prods;
     int small = prods < 200;
     uint32_t some[] = {prods, prods + 1, small ? 7 : prods * 2 / 3, small ? 1 : prods * 2 - 1};
-    for (uint16_t kind = 0; kind < KINDS; kind++) {
-        uint64_t visits = drive(kind, UINT32_MAX);
+    for (int k = 0; k < JOBS; k++) {
+        uint64_t visits = drive(job_kinds[k], UINT32_MAX);
         expect("whole rounds", visits % prods, 0);
-        for (int i = 0; i < 4; i++) expect("visits of a job", drive(kind, some[i]), visits);
-        odd_jobs(kind, 8);
+        for (int i = 0; i < 4; i++) expect("visits of a job", drive(job_kinds[k], some[i]), visits);
+        odd_jobs(job_kinds[k], 8);
     }
 }
 
@@ -621,11 +626,10 @@ static void g1(void) {
     for (uint16_t r = 0; r < 4; r++) {
         first_is(r, first[r]);
         expect("G1 EMPTY", rule_row(1), 12);
-        follow_is(2, r, follow[r]);
-        follow_is(1, r, follow[r]);
+        follow_is(r, follow[r]);
         cost_is(r, 0, cost[r]);
     }
-    fill(PRODUCTIVE_FILL, 0);
+    fill(PRODUCTIVE_FILL);
     expect("G1 PRODUCTIVE", rule_row(0), 15);
     sentence_is(0, 100, 0, 1);
     expect("G1 sentence", output[0], 0);
@@ -635,7 +639,7 @@ static void g1(void) {
     c.prod = 3;
     result r = run(&c);
     expect("G1 production", r.field[0] * 10 + r.field[1], 42);
-    fill(FIRST_CLEAR, 0);
+    fill(FIRST_CLEAR);
     for (int round = 0; round < 2; round++) {
         for (int i = 0; i < 6; i++) {
             call v = {.op = FIRST_VISIT, .g = g, .prod = order[i], .table = {words[0], words[1]}, .table_len = {4, 1}};
@@ -645,18 +649,19 @@ static void g1(void) {
     }
 }
 
-static void g2_to_g6(void) {
+static void g2(void) {
     begin(4, 4, 1);
     PROD(0, R(1));
     PROD(1, R(2), R(3), 2);
     PROD(2, 0);
     PROD(3, 1);
     prod(3, NULL, 0);
-    follow_is(1, 2, 2);
-    follow_is(2, 2, 6);
+    follow_is(2, 6);
     passes();
     jobs();
+}
 
+static void g3_and_g4(void) {
     begin(2, 2, 1);
     PROD(0, R(1));
     PROD(1, R(1));
@@ -678,7 +683,9 @@ static void g2_to_g6(void) {
     sentence_is(1, 100, 12, 0);
     passes();
     jobs();
+}
 
+static void g5_and_g6(void) {
     for (int which = 0; which < 3; which++) {
         begin(2, 3, 255);
         costs[1] = 1;
@@ -761,8 +768,8 @@ static void begin_exports(void) {
 }
 
 static void exports(void) {
-    static const uint32_t first[] = {3, 1, 2, 4, 8}, cost[] = {3, 5, 3, 1, 0}, length[] = {2, 3, 2, 1, 0};
-    static const uint32_t follow[2][5] = {{32, 32, 32, 40, 16}, {32, 32, 32, 56, 16}};
+    static const uint32_t first[] = {3, 1, 2, 4, 8}, follow[] = {32, 32, 32, 56, 16};
+    static const uint32_t cost[] = {3, 5, 3, 1, 0}, length[] = {2, 3, 2, 1, 0};
     begin_exports();
     passes();
     jobs();
@@ -771,32 +778,33 @@ static void exports(void) {
     for (uint16_t r = 0; r < 5; r++) {
         first_is(r, first[r]);
         expect("exports: EMPTY", rule_row(1), 16);
-        follow_is(1, r, follow[0][r]);
-        follow_is(2, r, follow[1][r]);
+        follow_is(r, follow[r]);
         cost_is(r, 0, cost[r]);
         sentence_is(r, 100, 0, length[r]);
         path_is(0, r, r > 0);
         path_is(1, r, r > 2);
         path_is(2, r, r == 3);
     }
-    fill(PRODUCTIVE_FILL, 0);
+    fill(PRODUCTIVE_FILL);
     expect("exports: PRODUCTIVE", rule_row(0), 31);
     sentence_is(0, 2, 0, 2);
     expect("exports: sentence", output[0] * 10 + output[1], 12);
     sentence_is(0, 1, 15, 0);
-    /* the same rule twice */
-    symbols[9] = R(1);
-    c = make(CHECK);
+}
+
+/* The same export twice; then all productions but one are rule 0's. */
+static void more_exports(void) {
+    begin_exports(), symbols[9] = R(1);
+    call c = make(CHECK);
     expect("the same export twice", run(&c).refusal, 0);
     cost_is(0, 0, 5);
     clash_is(0, 0, 6, 0);
     jobs();
-    /* all productions but one are rule 0's */
     begin(2, 2, 1);
     for (int p = 0; p < 4095; p++) PROD(0, R(1));
     PROD(1, 0);
     first_is(0, 1);
-    follow_is(2, 1, 2);
+    follow_is(1, 2);
     sentence_is(0, 1, 0, 1);
     clash_is(0, 0, 1, 0);
     jobs();
@@ -813,9 +821,9 @@ static void begin_dead(void) {
 
 /* A visit of a production where FIRST and EMPTY are finished, start and S have eof in FOLLOW, and A and the reached row
  * are as given: whether it changed something, and what A then has. */
-static void dead_visit(uint16_t mode, uint16_t prod, uint32_t reached, uint32_t a, uint32_t changed, uint32_t after) {
+static void dead_visit(uint16_t prod, uint32_t reached, uint32_t a, uint32_t changed, uint32_t after) {
     call c = make(FOLLOW_VISIT);
-    c.mode = mode, c.prod = prod;
+    c.prod = prod;
     words[0][0] = 4, words[0][1] = 4, words[0][2] = a, words[0][3] = 0;
     for (int r = 0; r < 4; r++) words[1][r] = 1;
     words[2][0] = 0, words[3][0] = reached;
@@ -825,28 +833,24 @@ static void dead_visit(uint16_t mode, uint16_t prod, uint32_t reached, uint32_t 
 }
 
 static void dead(void) {
-    static const uint32_t follow[2][4] = {{4, 4, 6, 0}, {4, 4, 4, 0}};
+    static const uint32_t follow[] = {4, 4, 4, 0};
     begin_dead();
     passes();
     jobs();
     reached_is(7);
     for (uint16_t r = 0; r < 4; r++) {
-        follow_is(1, r, follow[0][r]);
-        follow_is(2, r, follow[1][r]);
+        follow_is(r, follow[r]);
         path_is(0, r, r == 1 || r == 2);
     }
-    /* what counts is the lent row; spare bits and the bits of other rules say nothing, and mode 1 reads none */
+    /* what counts is the lent row; spare bits and the bits of other rules say nothing */
     for (uint32_t row = 0; row < 16; row++) {
-        dead_visit(2, 3, row, 4, row >> 3, row & 8 ? 6 : 4);
-        dead_visit(2, 3, row | 0xFFFFFFF0, 4, row >> 3, row & 8 ? 6 : 4);
-        dead_visit(2, 1, row, 0, row >> 1 & 1, row & 2 ? 4 : 0);
-        dead_visit(1, 3, row, 4, 1, 6);
-        dead_visit(1, 1, row, 0, 1, 4);
+        dead_visit(3, row, 4, row >> 3, row & 8 ? 6 : 4);
+        dead_visit(3, row | 0xFFFFFFF0, 4, row >> 3, row & 8 ? 6 : 4);
+        dead_visit(1, row, 0, row >> 1 & 1, row & 2 ? 4 : 0);
     }
     /* with rule 0's bit clear its production changes nothing */
     for (uint32_t row = 0; row < 16; row++) {
         call c = make(FOLLOW_VISIT);
-        c.mode = 2, c.prod = 0;
         words[0][0] = 4, words[0][1] = 0, words[0][2] = 0, words[0][3] = 0, words[3][0] = row;
         expect("visit of rule 0's production", run(&c).field[0], row & 1);
         expect("after it", words[0][1], row & 1 ? 4 : 0);
@@ -854,15 +858,15 @@ static void dead(void) {
     /* two exports, U one of them */
     begin_dead(), PROD(0, R(3));
     reached_is(15);
-    follow_is(2, 2, 6);
-    follow_is(2, 3, 4);
+    follow_is(2, 6);
+    follow_is(3, 4);
     clash_is(0, 0, 4, 0);
     jobs();
     /* a ring of dead rules that holds a reached one: start: A; A: a; B: C A; C: B */
     begin(4, 2, 1), PROD(0, R(1)), PROD(1, 0), PROD(2, R(3), R(1)), PROD(3, R(2));
     reached_is(3);
-    follow_is(2, 1, 2);
-    follow_is(2, 2, 0);
+    follow_is(1, 2);
+    follow_is(2, 0);
     passes();
     jobs();
 }
@@ -931,7 +935,7 @@ static void profile_vanishing(void) {
     /* S: a; U: nothing; U: b; W: U b: b follows U only where W is an export */
     begin(4, 3, 1), PROD(0, R(1)), PROD(1, 0), prod(2, NULL, 0), PROD(2, 1), PROD(3, R(2), 1), passes();
     PROD(0, R(3)), clash_is(2, 2, 3, 1);
-    /* S: A B c; A: c; A: nothing; B: b; B: nothing: c follows A past B, which the crate's mode does not see */
+    /* S: A B c; A: c; A: nothing; B: b; B: nothing: c follows A past B */
     begin(4, 3, 1), PROD(0, R(1)), PROD(1, R(2), R(3), 1), PROD(2, 1), prod(2, NULL, 0), PROD(3, 0), prod(3, NULL, 0);
     clash_is(2, 2, 3, 1);
     /* S: A B; A: nothing twice; B: B: A is reached and nothing follows it, so T is named */
@@ -1076,16 +1080,16 @@ static void slice_refused(call *c, uint32_t refusal) {
 /* 17 for each kind and next production that is none, on tables that are right and on such as would be 7. */
 static void bad_records(void) {
     begin_g1();
-    for (uint16_t kind = 0; kind < KINDS; kind++)
+    for (int k = 0; k < JOBS; k++)
         for (int how = 0; how < 2; how++) {
-            call c = make_slice((record){kind, how ? 65535 : 6, (uint16_t)below(3), 0}, 0);
+            call c = make_slice((record){job_kinds[k], how ? 65535 : 6, (uint16_t)below(3), 0}, 0);
             slice_refused(&c, 17);
             memset(c.table_len, 0, sizeof c.table_len), slice_refused(&c, 17);
         }
-    static const uint16_t kinds[] = {5, 6, 256, 32768, 65535}, nexts[] = {0, 5, 6, 65535};
-    for (int i = 0; i < 20; i++) {
+    static const uint16_t none[] = {1, 5, 6, 256, 257, 258, 32768, 65535}, nexts[] = {0, 5, 6, 65535};
+    for (int i = 0; i < 32; i++) {
         call c = make(SLICE);
-        c.job = (record){kinds[i / 4], nexts[i % 4], 1, 0};
+        c.job = (record){none[i / 4], nexts[i % 4], (uint16_t)below(3), 0};
         slice_refused(&c, 17);
         memset(c.table_len, 0, sizeof c.table_len), slice_refused(&c, 17);
     }
@@ -1094,10 +1098,10 @@ static void bad_records(void) {
 /* 7 for each table of the kind; a table of another kind may be so long. */
 static void tables_of_kinds(void) {
     begin_g1();
-    for (uint16_t kind = 0; kind < KINDS; kind++)
+    for (int k = 0; k < JOBS; k++)
         for (size_t i = 0; i < TABLES; i++)
             for (int how = 0; how < 4; how++) {
-                call c = make_slice((record){kind, (uint16_t)below(6), (uint16_t)below(3), 0}, 20);
+                call c = make_slice((record){job_kinds[k], (uint16_t)below(6), (uint16_t)below(3), 0}, 20);
                 size_t right = length_of(tables_of[SLICE][i], &g), bad[] = {0, right - 1, right + 1, right + 65536};
                 c.table_len[i] = bad[how];
                 if (due(&c, i))
@@ -1184,11 +1188,29 @@ static void numbers(void) {
             expect("mode", run(&c).refusal, o == FOLLOW_VISIT || o == FOLLOW_FILL ? 8 : 0);
             c = make((op)o), c.version = far ? 65535 : 0;
             expect("version", run(&c).refusal, o == WRITE_BLOCKS ? 26 : 0);
-            c = make((op)o), c.mode = 3, c.prod = 6;
+            c = make((op)o), c.mode = far ? 3 : 1, c.prod = 6;
             expect("mode and production", run(&c).refusal,
                    o == FOLLOW_VISIT || o == FOLLOW_FILL ? 8 : visit || o == PRODUCTION ? 11 : 0);
             c = make((op)o), c.rule = 4, c.token = 4;
             expect("rule and token", run(&c).refusal, rule ? 9 : 0);
+        }
+}
+
+/* 8 for each mode but 2, behind 7 and before 11. */
+static void modes(void) {
+    static const uint16_t other[] = {0, 1, 3, 257, 258, 32769, 32770, 65535};
+    begin_g1();
+    for (int i = 0; i < 8; i++)
+        for (int visit = 0; visit < 2; visit++) {
+            call c = make(visit ? FOLLOW_VISIT : FOLLOW_FILL);
+            c.mode = other[i];
+            for (c.prod = 0; c.prod < 8; c.prod++) expect("a mode that there is not", run(&c).refusal, 8);
+            for (size_t t = 0; t < 4; t++) {
+                size_t right = c.table_len[t];
+                c.table_len[t] = below(2) ? right + 1 : right - 1;
+                expect("a table's length before the mode", run(&c).refusal, 7);
+                c.table_len[t] = right;
+            }
         }
 }
 
@@ -1490,8 +1512,8 @@ static size_t any_room(void) {
 
 /* Any record: most are good. */
 static record any_record(void) {
-    record job = {(uint16_t)below(KINDS), (uint16_t)below((uint32_t)g.prods + 1), (uint16_t)below(3), 0};
-    if (below(8) == 0) job.kind = (uint16_t)(below(2) ? KINDS : next());
+    record job = {job_kinds[below(JOBS)], (uint16_t)below((uint32_t)g.prods + 1), (uint16_t)below(3), 0};
+    if (below(8) == 0) job.kind = (uint16_t)(below(2) ? below(KINDS + 1) : next());
     if (below(16) == 0) job.next = (uint16_t)next();
     if (below(8) == 0) job.done = (uint16_t)below(3), job.changed = (uint16_t)next();
     return job;
@@ -1509,7 +1531,7 @@ static void random_calls(int grammars) {
         for (int i = 0; i < 12; i++) {
             c.rule = (uint16_t)below(g.rules + 1u), c.to = (uint16_t)below(g.rules + 1u);
             c.token = (uint16_t)below((uint32_t)g.tokens + 1), c.prod = (uint16_t)below((uint32_t)g.prods + 1);
-            c.mode = (uint16_t)(below(8) ? 1 + below(2) : below(4)), c.out_len = below(below(8) ? 60 : 100000);
+            c.mode = (uint16_t)(below(8) ? 2 : below(4)), c.out_len = below(below(8) ? 60 : 100000);
             c.bytes_len = any_room(), c.version = (uint16_t)(below(8) ? 1 + below(2) : below(4));
             c.k = below(4) ? below(below(2) ? 4 : 40) : below(2) ? 65530 + below(12) : next();
             c.n = below(8) ? below(below(2) ? 4 : 200) : UINT32_MAX;
@@ -1581,8 +1603,11 @@ static void random_profiles(int grammars) {
 int main(void) {
     expect("fences", (uint64_t)build_fences(), 1);
     g1();
-    g2_to_g6();
+    g2();
+    g3_and_g4();
+    g5_and_g6();
     exports();
+    more_exports();
     dear_and_unknown();
     dead();
     lengths();
@@ -1594,6 +1619,7 @@ int main(void) {
     bad_grammars();
     list_lengths();
     numbers();
+    modes();
     bad_records();
     tables_of_kinds();
     reader();

@@ -47,7 +47,7 @@
  *   5  a token symbol is T-1 or more, or a rule symbol's rule is R or more
  *   6  some production of rule 0 is not exactly one rule symbol, or some production holds rule 0
  *   7  a lent table is not of its exact length
- *   8  FOLLOW mode other than 1 or 2
+ *   8  FOLLOW mode other than 2
  *   9, 10, 11  rule number R or more, token number T or more, production number P or more
  *  12  the rule asked for has no sentence
  *  13  it has one, but none costs 65535 or less
@@ -56,7 +56,7 @@
  *      sentences: some cheapest production, the first or another, does
  *  15  the sentence is longer than 65535 or than the room lent
  *  16  the rule has more than 65535 cheapest sentences, or not so many that there is a number k
- *  17  a job's kind is above 4, or its next production is P or more
+ *  17  a job's kind is 1 or above 4, or its next production is P or more
  *  20  file empty, not whole blocks, or over 98 blocks
  *  21  a block's check differs
  *  22  a block's number is not its place
@@ -139,10 +139,9 @@ typedef struct {
     uint16_t done;
 } boltmarrow_job;
 
-/* a job's kind: FIRST and EMPTY, FOLLOW in mode 1 and in mode 2, PRODUCTIVE, COST */
+/* a job's kind: FIRST and EMPTY, FOLLOW, PRODUCTIVE, COST */
 #define BOLTMARROW_JOB_FIRST 0u
-#define BOLTMARROW_JOB_FOLLOW_CRATE 1u
-#define BOLTMARROW_JOB_FOLLOW_CORRECTED 2u
+#define BOLTMARROW_JOB_FOLLOW 2u
 #define BOLTMARROW_JOB_PRODUCTIVE 3u
 #define BOLTMARROW_JOB_COST 4u
 
@@ -221,12 +220,11 @@ boltmarrow_answer boltmarrow_min_sentence_cost(BOLTMARROW_GRAMMAR, boltmarrow_ri
 boltmarrow_answer boltmarrow_reached_fill(BOLTMARROW_GRAMMAR, uint32_t *reached,
                                           size_t reached_len);
 
-/* FOLLOW, mode 1 (the crate), in which all productions count, or 2 (corrected), in which those of
- * reached rules do. A clear leaves rule 0 with eof. A visit reads FIRST and EMPTY, which should be
- * filled; in mode 2 it reads the reached row too, which should be filled, and a production of a rule
- * that the row does not mark changes nothing; in mode 1 the row is neither read nor changed. A fill
- * fills the reached row, FIRST and EMPTY too, in both modes. Refusals 1 to 7; visit 8 and 11, fill 8
- * too. 7 is for the reached row too, in both modes. */
+/* FOLLOW: token t for rule A where A t stands in some form that start eof derives; so the productions
+ * of reached rules count. `mode` is 2, and nothing else is taken: 8. A clear leaves rule 0 with eof. A
+ * visit reads FIRST, EMPTY and the reached row, which should be filled; a production of a rule that
+ * the reached row does not mark changes nothing. A fill fills the reached row, FIRST and EMPTY too.
+ * Refusals 1 to 7; visit 8 and 11, fill 8 too. 7 is for the reached row too. */
 boltmarrow_answer boltmarrow_follow_clear(BOLTMARROW_GRAMMAR, uint32_t *follow, size_t follow_len);
 boltmarrow_answer boltmarrow_follow_visit(BOLTMARROW_GRAMMAR, uint16_t mode, boltmarrow_pidx prod,
                                           uint32_t *follow, size_t follow_len,
@@ -241,11 +239,11 @@ boltmarrow_answer boltmarrow_follow_fill(BOLTMARROW_GRAMMAR, uint16_t mode, uint
 /* The profile: whether a reader can decide by the next token which production of a rule to take. A
  * grammar passes where no two productions of one rule share a token, and at most one of a rule's can
  * vanish (derive the form of no symbols). A production's tokens are those that it may start with, and
- * FOLLOW of its owner in mode 2 where it can vanish. All rules take part: rule 0, and dead ones too,
- * which nothing follows. Otherwise the grammar clashes, and the least clash is named: by rule, lower
+ * FOLLOW of its owner where it can vanish. All rules take part: rule 0, and dead ones too, which
+ * nothing follows. Otherwise the grammar clashes, and the least clash is named: by rule, lower
  * production, higher production, token. The tables are filled, passes or clashes, as
- * boltmarrow_follow_fill fills them in mode 2, whatever was there. Refusals 1 to 7; 7 is for each of
- * the four tables. */
+ * boltmarrow_follow_fill fills them, whatever was there. Refusals 1 to 7; 7 is for each of the four
+ * tables. */
 boltmarrow_verdict boltmarrow_profile(BOLTMARROW_GRAMMAR, uint32_t *follow, size_t follow_len,
                                       uint32_t *first, size_t first_len, uint32_t *empty,
                                       size_t empty_len, uint32_t *reached, size_t reached_len);
@@ -253,14 +251,14 @@ boltmarrow_verdict boltmarrow_profile(BOLTMARROW_GRAMMAR, uint32_t *follow, size
 /* A slice of a job: n visits of its kind, from its next production on, rising, and from 0 again behind
  * the last; fewer only where the job is done or becomes so. The answer is how many were made, and the
  * job says where it stands then: it is done once a whole round changed nothing. A job that began with
- * cleared tables, FOLLOW with FIRST and EMPTY filled and, in mode 2, the reached row filled, has then
- * left what the fill would; before, each mark and cost that it holds is true. The record is taken at
- * its word, also one that no slice left so. Only the tables of the kind are looked at: FIRST and EMPTY;
- * FOLLOW, which is changed, FIRST, EMPTY and the reached row, which are read; PRODUCTIVE; COST. The
- * others may be of any length, 0 too. Refusals 1 to 6, 17, then 7, also where no visit is asked for;
- * a refusal, and a slice without a visit, leave the record as found. Each slice checks the grammar
- * first, so lend it hundreds of visits; and a job goes up in every round, where a fill goes up and
- * down, so it may make more rounds. */
+ * cleared tables, FOLLOW with FIRST, EMPTY and the reached row filled, has then left what the fill
+ * would; before, each mark and cost that it holds is true. The record is taken at its word, also one
+ * that no slice left so. Only the tables of the kind are looked at: FIRST and EMPTY; FOLLOW, which is
+ * changed, FIRST, EMPTY and the reached row, which are read; PRODUCTIVE; COST. The others may be of any
+ * length, 0 too. Refusals 1 to 6, 17, then 7, also where no visit is asked for; a refusal, and a slice
+ * without a visit, leave the record as found. Each slice checks the grammar first, so lend it hundreds
+ * of visits; and a job goes up in every round, where a fill goes up and down, so it may make more
+ * rounds. */
 boltmarrow_answer boltmarrow_slice(boltmarrow_job *job, BOLTMARROW_GRAMMAR, uint32_t n,
                                    uint32_t *first, size_t first_len, uint32_t *empty,
                                    size_t empty_len, uint32_t *follow, size_t follow_len,

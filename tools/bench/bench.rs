@@ -4,8 +4,9 @@
 //!     bench                     at the repository's top; prints two tables
 //!     bench costs PLACE         ends once the Rust has the costs of the grammar at that place of the list
 //!
-//! Before a grammar is timed the three are held to each other: FIRST, EMPTY, FOLLOW, in the Rust only the crate's mode,
-//! and the costs, in the Rust only where it returns; the reached row, which the Rust has not, C and the library.
+//! Before a grammar is timed the three are held to each other: FIRST, EMPTY, FOLLOW and the costs, in the Rust FOLLOW only
+//! where no rule can vanish and none is dead, since elsewhere it makes another table, and the costs only where it returns;
+//! the reached row, which the Rust has not, C and the library.
 mod clock;
 mod grammars;
 mod plain;
@@ -17,7 +18,7 @@ use std::process::Command;
 use std::thread::sleep;
 use std::time::{Duration, Instant};
 
-use boltmarrow::{Cost, Grammar, Mode, PIdx, RIdx, TIdx};
+use boltmarrow::{Cost, Grammar, PIdx, RIdx, TIdx};
 use boltmarrow_cfgrammar::{flatten, rule, token};
 use cfgrammar::yacc::{YaccGrammar, YaccKind, YaccOriginalActionKind};
 
@@ -50,8 +51,10 @@ fn keep<T>(answer: T) {
 }
 
 fn hold_marks(grm: &YaccGrammar<u16>, flat: &Grammar) {
-    let (firsts, follows) = (flat.firsts(), flat.follows(Mode::Crate));
+    let (firsts, follows) = (flat.firsts(), flat.follows());
     let (own_firsts, own_follows) = (grm.firsts(), grm.follows());
+    let parts = |ridx| firsts.is_epsilon_set(ridx).unwrap() || !follows.reached().is_set(ridx).unwrap();
+    let same_follow = !flat.iter_rules().any(parts);
     for ridx in grm.iter_rules() {
         let held = |holds: &dyn Fn(cfgrammar::TIdx<u16>) -> bool| -> Vec<TIdx> {
             grm.iter_tidxs().filter(|tidx| holds(*tidx)).map(token).collect()
@@ -59,7 +62,9 @@ fn hold_marks(grm: &YaccGrammar<u16>, flat: &Grammar) {
         let (r, first, follow) = (rule(ridx), &own_firsts, &own_follows);
         assert_eq!(firsts.firsts(r).unwrap().collect::<Vec<_>>(), held(&|tidx| first.is_set(ridx, tidx)));
         assert_eq!(firsts.is_epsilon_set(r), Ok(first.is_epsilon_set(ridx)));
-        assert_eq!(follows.follows(r).unwrap().collect::<Vec<_>>(), held(&|tidx| follow.is_set(ridx, tidx)));
+        if same_follow {
+            assert_eq!(follows.follows(r).unwrap().collect::<Vec<_>>(), held(&|tidx| follow.is_set(ridx, tidx)));
+        }
     }
 }
 
@@ -83,22 +88,18 @@ fn hold_plain(plain: &Plain, flat: &Grammar) {
     let width = usize::from(flat.tokens_len()).div_ceil(32);
     let bit = |table: &[u32], place: usize, mark: usize| table[place + mark / 32] >> (mark % 32) & 1 == 1;
     let [first, empty] = plain.firsts();
-    let [one, two] = [Mode::Crate, Mode::Corrected].map(|mode| (plain.follows(mode as u32), flat.follows(mode)));
+    let ([follow, .., follows_row], follows) = (plain.follows(), flat.follows());
     let (firsts, costs, cost) = (flat.firsts(), plain.costs(), flat.costs());
     let (row, reached) = (plain.reached(), flat.reached());
     for ridx in flat.iter_rules() {
         let r = usize::from(ridx);
         for tidx in flat.iter_tidxs() {
             assert_eq!(firsts.is_set(ridx, tidx), Ok(bit(&first, r * width, tidx.into())));
-            for (plain, ours) in [&one, &two] {
-                assert_eq!(ours.is_set(ridx, tidx), Ok(bit(&plain[0], r * width, tidx.into())));
-            }
+            assert_eq!(follows.is_set(ridx, tidx), Ok(bit(&follow, r * width, tidx.into())));
         }
         assert_eq!(firsts.is_epsilon_set(ridx), Ok(bit(&empty, 0, r)));
         assert_eq!(reached.is_set(ridx), Ok(bit(&row, 0, r)));
-        for (plain, ours) in [&one, &two] {
-            assert_eq!(ours.reached().is_set(ridx), Ok(bit(&plain[3], 0, r)));
-        }
+        assert_eq!(follows.reached().is_set(ridx), Ok(bit(&follows_row, 0, r)));
         assert_eq!(cost.cost(ridx), Ok(cost_of(costs[r])));
     }
 }
@@ -150,9 +151,8 @@ fn fills(place: usize, given: &Given) {
     line(name, "check", None, &mut || keep(plain.check()), &mut check);
     line(name, "FIRST", Some(&mut || keep(grm.firsts())), &mut || keep(plain.firsts()), &mut || keep(flat.firsts()));
     line(name, "reached rules", None, &mut || keep(plain.reached()), &mut || keep(flat.reached()));
-    let [mut one, mut two] = [Mode::Crate, Mode::Corrected].map(|mode| move || keep(flat.follows(mode)));
-    line(name, "FOLLOW, mode 1", Some(&mut || keep(grm.follows())), &mut || keep(plain.follows(1)), &mut one);
-    line(name, "FOLLOW, mode 2", None, &mut || keep(plain.follows(2)), &mut two);
+    let mut rust = || keep(grm.follows());
+    line(name, "FOLLOW", Some(&mut rust), &mut || keep(plain.follows()), &mut || keep(flat.follows()));
     let returns = costs_return(place);
     if returns {
         hold_costs(grm, flat, &given.costs);
@@ -167,13 +167,10 @@ fn fills(place: usize, given: &Given) {
 fn beside_check(flat: &Grammar) {
     let turn = |count: u16| (0..count).cycle();
     let (mut prods, mut rules) = (turn(flat.prods_len().0).map(PIdx), turn(flat.rules_len().0).map(RIdx));
-    let (mut first, mut productive, mut cost) = (flat.first_table(), flat.productive_table(), flat.cost_table());
-    let [mut one, mut two] = [Mode::Crate, Mode::Corrected].map(|mode| flat.follow_table(mode));
+    let (mut first, mut follow) = (flat.first_table(), flat.follow_table());
+    let (mut productive, mut cost) = (flat.productive_table(), flat.cost_table());
     for pidx in (0..3).flat_map(|_| flat.iter_pidxs()) {
-        for table in [&mut one, &mut two] {
-            table.visit(pidx).unwrap();
-        }
-        let visited = [first.visit(pidx), productive.visit(pidx), cost.visit(pidx)];
+        let visited = [first.visit(pidx), follow.visit(pidx), productive.visit(pidx), cost.visit(pidx)];
         assert!(visited.iter().all(|visited| visited.is_ok()));
     }
     let mut prod = || prods.next().unwrap();
@@ -182,8 +179,7 @@ fn beside_check(flat: &Grammar) {
     check_line(flat, "prod, without a call", &mut || keep(flat.prod(prod())));
     check_line(flat, "is_set, without a call", &mut || keep(firsts.is_set(rules.next().unwrap(), eof)));
     check_line(flat, "FIRST visit", &mut || keep(first.visit(prod())));
-    check_line(flat, "FOLLOW visit, the crate's mode", &mut || keep(one.visit(prod())));
-    check_line(flat, "FOLLOW visit, corrected", &mut || keep(two.visit(prod())));
+    check_line(flat, "FOLLOW visit", &mut || keep(follow.visit(prod())));
     check_line(flat, "PRODUCTIVE visit", &mut || keep(productive.visit(prod())));
     check_line(flat, "COST visit", &mut || keep(cost.visit(prod())));
     check_line(flat, "has_path, none", &mut || keep(flat.has_path(RIdx(1), RIdx(0))));

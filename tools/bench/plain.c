@@ -164,10 +164,10 @@ unsigned plain_reached_fill(const struct plain_grammar *g, uint32_t *reached)
     return refused;
 }
 
-static int follow_step(const struct plain_grammar *g, int corrected, size_t p, uint32_t *follow, const uint32_t *first,
+static int follow_step(const struct plain_grammar *g, size_t p, uint32_t *follow, const uint32_t *first,
                        const uint32_t *empty, const uint32_t *reached)
 {
-    if (corrected && !is_set(reached, g->owners[p]))
+    if (!is_set(reached, g->owners[p]))
         return 0;
     size_t width = words(g->tokens);
     uint32_t ahead[16];
@@ -184,18 +184,18 @@ static int follow_step(const struct plain_grammar *g, int corrected, size_t p, u
         if (null)
             new |= join(follow + (s - RULE) * width, follow + g->owners[p] * width, width);
         new |= join(follow + (s - RULE) * width, ahead, width);
-        int vanishes = is_set(empty, s - RULE);
-        if (corrected && vanishes)
+        if (is_set(empty, s - RULE)) {
             join(ahead, first + (s - RULE) * width, width);
-        else
+        } else {
             memcpy(ahead, first + (s - RULE) * width, width * sizeof *ahead);
-        null &= vanishes;
+            null = 0;
+        }
     }
     return new;
 }
 
-unsigned plain_follow_fill(const struct plain_grammar *g, unsigned mode, uint32_t *follow, uint32_t *first,
-                           uint32_t *empty, uint32_t *reached)
+unsigned plain_follow_fill(const struct plain_grammar *g, uint32_t *follow, uint32_t *first, uint32_t *empty,
+                           uint32_t *reached)
 {
     unsigned refused = plain_check(g);
     if (refused != 0)
@@ -207,7 +207,7 @@ unsigned plain_follow_fill(const struct plain_grammar *g, unsigned mode, uint32_
     for (int down = 0, changed = 1; changed; down = !down) {
         changed = 0;
         for (size_t i = 0; i < g->prods; i++)
-            changed |= follow_step(g, mode == 2, down ? g->prods - 1 - i : i, follow, first, empty, reached);
+            changed |= follow_step(g, down ? g->prods - 1 - i : i, follow, first, empty, reached);
     }
     return 0;
 }

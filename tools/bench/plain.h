@@ -15,8 +15,8 @@ struct plain_grammar {
 unsigned plain_check(const struct plain_grammar *g);
 unsigned plain_first_fill(const struct plain_grammar *g, uint32_t *first, uint32_t *empty);
 unsigned plain_reached_fill(const struct plain_grammar *g, uint32_t *reached);
-unsigned plain_follow_fill(const struct plain_grammar *g, unsigned mode, uint32_t *follow, uint32_t *first,
-                           uint32_t *empty, uint32_t *reached);
+unsigned plain_follow_fill(const struct plain_grammar *g, uint32_t *follow, uint32_t *first, uint32_t *empty,
+                           uint32_t *reached);
 unsigned plain_cost_fill(const struct plain_grammar *g, uint32_t *cost);
 
 #endif

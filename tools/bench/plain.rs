@@ -20,7 +20,6 @@ unsafe extern "C" {
     fn plain_reached_fill(g: *const CGrammar, reached: *mut u32) -> u32;
     fn plain_follow_fill(
         g: *const CGrammar,
-        mode: u32,
         follow: *mut u32,
         first: *mut u32,
         empty: *mut u32,
@@ -86,10 +85,10 @@ impl Plain {
     }
 
     /// FOLLOW, FIRST, EMPTY and the reached row.
-    pub fn follows(&self, mode: u32) -> [Vec<u32>; 4] {
+    pub fn follows(&self) -> [Vec<u32>; 4] {
         let (mut follow, mut first, mut empty, mut reached) = (self.marks(), self.marks(), self.row(), self.row());
         let [f, i, e, r] = [&mut follow, &mut first, &mut empty, &mut reached].map(|table| table.as_mut_ptr());
-        let refused = unsafe { plain_follow_fill(&self.lent(), mode, f, i, e, r) };
+        let refused = unsafe { plain_follow_fill(&self.lent(), f, i, e, r) };
         assert_eq!(refused, 0);
         [follow, first, empty, reached]
     }

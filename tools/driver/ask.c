@@ -1,8 +1,8 @@
 /* Asks the library about flat grammars: standard input has one a line, and standard output a line of JSON for each.
  * Both have the form of tools/oracle/oracle.rs, with these differences: "costs" has an outcome for each rule,
- * "corrected" is FOLLOW of mode 2, "reached" the reached row, "profile" the five numbers of the verdict, "counts" has
- * an outcome for each rule, how many cheapest sentences it has, and an outcome is {"returned": [number..]} or
- * {"refused": number}. A refused grammar has the outcome of boltmarrow_check alone.
+ * "reached" is the reached row, "profile" the five numbers of the verdict, "counts" has an outcome for each rule, how
+ * many cheapest sentences it has, and an outcome is {"returned": [number..]} or {"refused": number}. A refused grammar
+ * has the outcome of boltmarrow_check alone.
  */
 #include <stdio.h>
 
@@ -83,11 +83,6 @@ static void print_marks(const char *name, const uint32_t *table) {
         printf("]");
     }
     printf("],");
-}
-
-static void print_follow(const char *name, uint16_t mode) {
-    boltmarrow_follow_fill(GRAMMAR, mode, follow, MARKS, first, MARKS, empty, ROW, reached, ROW);
-    print_marks(name, follow);
 }
 
 static void print_row(const char *name, const uint32_t *row) {
@@ -210,8 +205,8 @@ static int answer(void) {
     boltmarrow_first_fill(GRAMMAR, first, MARKS, empty, ROW);
     print_marks("first", first);
     print_row("empty", empty);
-    print_follow("follow", 1);
-    print_follow("corrected", 2);
+    boltmarrow_follow_fill(GRAMMAR, 2, follow, MARKS, first, MARKS, empty, ROW, reached, ROW);
+    print_marks("follow", follow);
     boltmarrow_reached_fill(GRAMMAR, reached, ROW);
     print_row("reached", reached);
     print_profile();

@@ -9,12 +9,11 @@ use std::error::Error;
 use std::process::exit;
 use std::{env, fs};
 
-use boltmarrow::{Follows, Grammar, Mode, RIdx, Refusal, TIdx};
+use boltmarrow::{Follows, Grammar, RIdx, Refusal, TIdx};
 
-/// The FOLLOW tables and the two commas.
+/// FOLLOW and the two commas.
 struct Commas<'g> {
-    corrected: Follows<'g>,
-    of_crate: Follows<'g>,
+    follows: Follows<'g>,
     decimal: TIdx,
     field: TIdx,
 }
@@ -22,29 +21,19 @@ struct Commas<'g> {
 impl Commas<'_> {
     /// What is to be said of a rule.
     fn said(&self, ridx: RIdx) -> Result<Vec<&'static str>, Refusal> {
-        let firsts = self.corrected.firsts();
+        let firsts = self.follows.firsts();
         let begins = firsts.is_set(ridx, self.decimal)?;
-        let ends = self.corrected.is_set(ridx, self.field)?;
-        let lost = ends && !self.of_crate.is_set(ridx, self.field)?;
+        let ends = self.follows.is_set(ridx, self.field)?;
         let left_out = (begins || ends) && firsts.is_epsilon_set(ridx)?;
-        let facts = [
-            (begins, "begins with a decimal comma"),
-            (left_out, "can be left out"),
-            (ends, "ends at a field comma"),
-            (lost, "the crate's mode loses the field comma"),
-        ];
+        let facts =
+            [(begins, "begins with a decimal comma"), (left_out, "can be left out"), (ends, "ends at a field comma")];
         Ok(facts.into_iter().filter(|(holds, _)| *holds).map(|(_, words)| words).collect())
     }
 }
 
 fn print(file: &str, decimal: &str, field: &str) -> Result<(), Box<dyn Error>> {
     let grm = Grammar::from_blocks(&fs::read(file)?)?;
-    let commas = Commas {
-        corrected: grm.follows(Mode::Corrected),
-        of_crate: grm.follows(Mode::Crate),
-        decimal: TIdx(decimal.parse()?),
-        field: TIdx(field.parse()?),
-    };
+    let commas = Commas { follows: grm.follows(), decimal: TIdx(decimal.parse()?), field: TIdx(field.parse()?) };
     for ridx in grm.iter_rules() {
         let said = commas.said(ridx)?;
         if !said.is_empty() {

@@ -4,7 +4,7 @@
 //!
 //! The progress is one line of standard error, which is written again after each slice; what was filled goes to standard
 //! output. A program with a screen of its own draws it, and looks for keys, where this one writes its line.
-use boltmarrow::{Grammar, Job, Mode, RIdx, Refusal, Whole};
+use boltmarrow::{Grammar, Job, RIdx, Refusal, Whole};
 
 /// The visits of a slice. At the limits a thousand take less than a millisecond.
 const VISITS: u32 = 1000;
@@ -50,7 +50,7 @@ fn main() -> Result<(), Refusal> {
     let start = grm.start_rule_idx();
     let firsts = watched("FIRST", grm.first_job());
     println!("the start begins with any of {} tokens", firsts.firsts(start)?.count());
-    let follows = watched("FOLLOW", firsts.follow_job(Mode::Corrected));
+    let follows = watched("FOLLOW", firsts.follow_job());
     println!("the last rule is followed by any of {} tokens", follows.follows(LAST)?.count());
     let costs = watched("COST", grm.cost_job());
     println!("the start's cheapest sentence: {:?}", costs.cost(start)?);

@@ -1,7 +1,7 @@
 use crate::jobs::Fills;
 use crate::sys::{self, Tables};
 use crate::table::{done, mark, rule_mark, tokens};
-use crate::{FollowTable, Follows, Grammar, Job, Mode, PIdx, RIdx, Refusal, TIdx, Whole};
+use crate::{FollowTable, Follows, Grammar, Job, PIdx, RIdx, Refusal, TIdx, Whole};
 
 /// FIRST and EMPTY, whole: as their fill left them. They can be asked and not changed.
 #[derive(Clone, Debug)]
@@ -37,8 +37,8 @@ impl<'g> Firsts<'g> {
 
     /// A job that fills FOLLOW and reads these, so that nothing is filled at once but the reached row, by one search.
     /// In the end [`Follows::firsts`] has them.
-    pub fn follow_job(self, mode: Mode) -> Job<Follows<'g>> {
-        FollowTable::job(self, mode)
+    pub fn follow_job(self) -> Job<Follows<'g>> {
+        FollowTable::job(self)
     }
 }
 

@@ -3,19 +3,13 @@ use crate::sys::{self, Flat, Tables};
 use crate::table::{done, mark, tokens};
 use crate::{FirstTable, Firsts, Grammar, Job, PIdx, RIdx, Reached, Refusal, TIdx, Whole};
 
-/// How FOLLOW looks at what comes after a rule, and in which productions.
-#[derive(Clone, Copy, Debug, Eq, Hash, PartialEq)]
-pub enum Mode {
-    /// As cfgrammar does: at the next symbol only, which loses tokens where that symbol can vanish; in all productions,
-    /// which adds tokens that only a dead rule puts there.
-    Crate = 1,
-    /// At all that comes after it, as far as symbols can vanish, in the productions of reached rules. So a token is
-    /// there exactly if it stands after the rule in some form that the start, with eof behind it, derives.
-    Corrected = 2,
-}
-
 /// FOLLOW, whole: as its fill left it, with the FIRST, EMPTY and reached row that it was made from. It can be asked and
 /// not changed.
+///
+/// It looks at all that comes after a rule, as far as symbols can vanish, in the productions of reached rules. So a token
+/// is there exactly if it stands after the rule in some form that the start, with eof behind it, derives. cfgrammar's own
+/// looks at the next symbol only, which loses tokens where that symbol can vanish, and in all productions, which adds
+/// tokens that only a dead rule puts there.
 #[derive(Clone, Debug)]
 pub struct Follows<'g>(pub(crate) FollowTable<'g>);
 
@@ -43,7 +37,7 @@ impl<'g> Follows<'g> {
         self.0.firsts()
     }
 
-    /// The reached row that it was made from, in the corrected mode; the crate's mode has it beside.
+    /// The reached row that it was made from.
     pub fn reached(&self) -> &Reached<'g> {
         self.0.reached()
     }
@@ -63,18 +57,17 @@ impl Fills for Follows<'_> {
     }
 
     fn lent(&mut self) -> (&Grammar, Tables<'_>) {
-        let FollowTable { follow, firsts, reached, .. } = &mut self.0;
+        let FollowTable { follow, firsts, reached } = &mut self.0;
         let FirstTable { grammar, first, empty } = &mut firsts.0;
         (grammar, Tables { first, empty, follow, reached: &reached.reached, ..Tables::default() })
     }
 }
 
-/// FOLLOW, filled by single visits in any order, all in one mode, which read whole FIRST and EMPTY tables and, in the
-/// corrected mode, the whole reached row: there a visit of a dead rule's production changes nothing. Each mark that it
-/// holds is true; it is whole when no visit changes it.
+/// FOLLOW, filled by single visits in any order, which read whole FIRST and EMPTY tables and the whole reached row: a
+/// visit of a dead rule's production changes nothing. Each mark that it holds is true; it is whole when no visit changes
+/// it.
 #[derive(Clone, Debug)]
 pub struct FollowTable<'g> {
-    mode: Mode,
     pub(crate) follow: Vec<u32>,
     firsts: Firsts<'g>,
     reached: Reached<'g>,
@@ -82,20 +75,20 @@ pub struct FollowTable<'g> {
 
 impl<'g> FollowTable<'g> {
     /// It reads the FIRST and EMPTY that are given.
-    pub(crate) fn new(firsts: Firsts<'g>, mode: Mode) -> Self {
+    pub(crate) fn new(firsts: Firsts<'g>) -> Self {
         let grammar = firsts.0.grammar;
-        let mut table = FollowTable { mode, follow: grammar.marks(), firsts, reached: grammar.reached() };
+        let mut table = FollowTable { follow: grammar.marks(), firsts, reached: grammar.reached() };
         table.clear();
         table
     }
 
-    pub(crate) fn job(firsts: Firsts<'g>, mode: Mode) -> Job<Follows<'g>> {
-        Job::new(mode as u16, Follows(Self::new(firsts, mode)))
+    pub(crate) fn job(firsts: Firsts<'g>) -> Job<Follows<'g>> {
+        Job::new(sys::JOB_FOLLOW, Follows(Self::new(firsts)))
     }
 
-    pub(crate) fn filled(grammar: &'g Grammar, mode: Mode) -> Follows<'g> {
-        let (follows, answer) = Self::filled_by(grammar, mode, |flat, [follow, first, empty, reached]| {
-            sys::follow_fill(flat, mode as u16, follow, first, empty, reached)
+    pub(crate) fn filled(grammar: &'g Grammar) -> Follows<'g> {
+        let (follows, answer) = Self::filled_by(grammar, |flat, [follow, first, empty, reached]| {
+            sys::follow_fill(flat, sys::FOLLOW_MODE, follow, first, empty, reached)
         });
         done(answer);
         follows
@@ -104,14 +97,13 @@ impl<'g> FollowTable<'g> {
     /// What a call leaves that fills FOLLOW, FIRST, EMPTY and the reached row, and its answer.
     pub(crate) fn filled_by<A>(
         grammar: &'g Grammar,
-        mode: Mode,
         fill: impl FnOnce(Flat, [&mut [u32]; 4]) -> A,
     ) -> (Follows<'g>, A) {
         let (mut follow, mut firsts) = (grammar.marks(), FirstTable::unfilled(grammar));
         let mut reached = Reached::unfilled(grammar);
         let tables = [&mut follow[..], &mut firsts.first, &mut firsts.empty, &mut reached.reached];
         let answer = fill(grammar.flat(), tables);
-        (Follows(FollowTable { mode, follow, firsts: Firsts(firsts), reached }), answer)
+        (Follows(FollowTable { follow, firsts: Firsts(firsts), reached }), answer)
     }
 
     fn grammar(&self) -> &'g Grammar {
@@ -130,7 +122,7 @@ impl<'g> FollowTable<'g> {
     /// Refusal 11 for a production that the grammar does not have.
     pub fn visit(&mut self, pidx: PIdx) -> Result<bool, Refusal> {
         let (FirstTable { grammar, first, empty }, reached) = (&self.firsts.0, &self.reached.reached);
-        sys::follow_visit(grammar.flat(), self.mode as u16, pidx.0, &mut self.follow, first, empty, reached).yes()
+        sys::follow_visit(grammar.flat(), sys::FOLLOW_MODE, pidx.0, &mut self.follow, first, empty, reached).yes()
     }
 
     /// Whether the token is known to follow the rule.
@@ -156,7 +148,7 @@ impl<'g> FollowTable<'g> {
         &self.firsts
     }
 
-    /// The reached row that it reads in the corrected mode; the crate's mode reads none.
+    /// The reached row that it reads.
     pub fn reached(&self) -> &Reached<'g> {
         &self.reached
     }

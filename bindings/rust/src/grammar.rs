@@ -3,8 +3,8 @@ use std::io;
 use crate::sys::{self, Flat};
 use crate::table::words;
 use crate::{
-    CostTable, Costs, FirstTable, Firsts, FollowTable, Follows, Job, Mode, PIdx, Productive, ProductiveTable, RIdx,
-    Reached, Refusal, SIdx, SentenceGenerator, Symbol, TIdx, Verdict, Version,
+    CostTable, Costs, FirstTable, Firsts, FollowTable, Follows, Job, PIdx, Productive, ProductiveTable, RIdx, Reached,
+    Refusal, SIdx, SentenceGenerator, Symbol, TIdx, Verdict, Version,
 };
 
 /// The bytes of the largest block file: 98 blocks.
@@ -313,7 +313,7 @@ impl Grammar {
     /// The reached row: which rules are the start or have a path from it. The others are dead.
     ///
     /// ```
-    /// use boltmarrow::{Grammar, Mode, RIdx, TIdx};
+    /// use boltmarrow::{Grammar, RIdx, TIdx};
     ///
     /// // start: S; S: A; A: a; U: A z, where U was left in and is used nowhere. Rules are 1 S, 2 A, 3 U, tokens 0 a,
     /// // 1 z, 2 eof.
@@ -321,9 +321,8 @@ impl Grammar {
     /// let grm = Grammar::new(4, owners, starts, vec![32769, 32770, 0, 32770, 1], vec![1, 1, 1])?;
     /// let (a, u, z) = (RIdx(2), RIdx(3), TIdx(1));
     /// assert!(grm.reached().is_set(a)? && !grm.reached().is_set(u)?);
-    /// // So no row has z after A. The crate's mode has it.
-    /// assert!(!grm.follows(Mode::Corrected).is_set(a, z)?);
-    /// assert!(grm.follows(Mode::Crate).is_set(a, z)?);
+    /// // So no row has z after A. cfgrammar's own FOLLOW, which counts all productions, has it.
+    /// assert!(!grm.follows().is_set(a, z)?);
     /// # Ok::<(), boltmarrow::Refusal>(())
     /// ```
     pub fn reached(&self) -> Reached<'_> {
@@ -346,28 +345,28 @@ impl Grammar {
     }
 
     /// FOLLOW.
-    pub fn follows(&self, mode: Mode) -> Follows<'_> {
-        FollowTable::filled(self, mode)
+    pub fn follows(&self) -> Follows<'_> {
+        FollowTable::filled(self)
     }
 
     /// FOLLOW, cleared, for single visits; with FIRST, EMPTY and the reached row, filled, which the visits read.
-    pub fn follow_table(&self, mode: Mode) -> FollowTable<'_> {
-        FollowTable::new(self.firsts(), mode)
+    pub fn follow_table(&self) -> FollowTable<'_> {
+        FollowTable::new(self.firsts())
     }
 
     /// A job that fills FOLLOW by slices. FIRST, EMPTY and the reached row, which it reads, are filled here, at once; to
     /// fill FIRST and EMPTY by slices too, take [`Firsts::follow_job`] of those that a [`first_job`](Self::first_job)
     /// gave.
-    pub fn follow_job(&self, mode: Mode) -> Job<Follows<'_>> {
-        self.firsts().follow_job(mode)
+    pub fn follow_job(&self) -> Job<Follows<'_>> {
+        self.firsts().follow_job()
     }
 
     /// Whether a reader can decide by the next token: for each rule, which of its productions it is to take. If not,
     /// the least clash, by rule, then lower production, higher production, token.
     ///
     /// Two productions of one rule clash where they share a token that both may start with. What a production may start
-    /// with is its FIRST and, where it can vanish, the corrected FOLLOW of its rule. Two that both can vanish clash in
-    /// any case. All rules take part, the start and dead ones too.
+    /// with is its FIRST and, where it can vanish, the FOLLOW of its rule. Two that both can vanish clash in any case.
+    /// All rules take part, the start and dead ones too.
     ///
     /// ```
     /// use boltmarrow::{Clash, Grammar, PIdx, RIdx, TIdx, Verdict};
@@ -391,8 +390,8 @@ impl Grammar {
         self.profile_with_follows().0
     }
 
-    /// What [`profile`](Self::profile) gives, and the tables that it was found by: FOLLOW, corrected, with FIRST, EMPTY
-    /// and the reached row. They say why two productions clash, and are what a reader is made from if none do.
+    /// What [`profile`](Self::profile) gives, and the tables that it was found by: FOLLOW, with FIRST, EMPTY and the
+    /// reached row. They say why two productions clash, and are what a reader is made from if none do.
     pub fn profile_with_follows(&self) -> (Verdict, Follows<'_>) {
         Verdict::found(self)
     }

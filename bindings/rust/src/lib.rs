@@ -1,4 +1,4 @@
-//! FIRST, FOLLOW, `has_path`, minimum costs and cheapest sentences of a grammar, as cfgrammar has them, by a library
+//! FIRST, FOLLOW, `has_path`, minimum costs and cheapest sentences of a grammar, by cfgrammar's names, from a library
 //! whose every call is proved to give document 01's tables, to end, and to stay in its lists.
 //!
 //! A [`Grammar`] owns its flat tables and is checked once, when it is made. All else borrows it, with tables of the
@@ -7,7 +7,7 @@
 //! [`Grammar::profile`] tells whether a reader can decide by the next token.
 //!
 //! ```
-//! use boltmarrow::{Grammar, Mode, RIdx, TIdx};
+//! use boltmarrow::{Grammar, RIdx, TIdx};
 //!
 //! // Row: Num Unit comma; Num: digits; Unit: unit | nothing. Rules are 0 start, 1 Row, 2 Num, 3 Unit,
 //! // tokens 0 digits, 1 comma, 2 unit, 3 eof; in the symbol list rule r is 32768 + r.
@@ -19,8 +19,8 @@
 //!     vec![32769, 32770, 32771, 1, 0, 2],
 //!     vec![1, 1, 1, 1],
 //! )?;
-//! assert!(grm.follows(Mode::Corrected).is_set(num, comma)?);
-//! assert!(!grm.follows(Mode::Crate).is_set(num, comma)?);
+//! // Where Unit is nothing the comma follows Num. cfgrammar's own FOLLOW looks one symbol ahead and lacks it.
+//! assert!(grm.follows().is_set(num, comma)?);
 //! # Ok::<(), boltmarrow::Refusal>(())
 //! ```
 #![deny(missing_docs, unsafe_code)]
@@ -44,7 +44,7 @@ mod version;
 
 pub use costs::{Cost, CostTable, Costs, Productive, ProductiveTable};
 pub use firsts::{FirstTable, Firsts};
-pub use follows::{FollowTable, Follows, Mode};
+pub use follows::{FollowTable, Follows};
 pub use grammar::Grammar;
 pub use idx::{PIdx, RIdx, SIdx, Symbol, TIdx};
 pub use jobs::{Job, Whole};

@@ -1,7 +1,7 @@
 use std::fmt;
 
 use crate::sys;
-use crate::{FollowTable, Follows, Grammar, Mode, PIdx, RIdx, TIdx};
+use crate::{FollowTable, Follows, Grammar, PIdx, RIdx, TIdx};
 
 /// Whether a reader can decide by the next token, as [`Grammar::profile`] finds it. It can be shown, by numbers.
 #[derive(Clone, Copy, Debug, Eq, Hash, PartialEq)]
@@ -29,10 +29,9 @@ pub struct Clash {
 impl Verdict {
     /// The verdict, and the tables that the call filled.
     pub(crate) fn found(grammar: &Grammar) -> (Verdict, Follows<'_>) {
-        let (follows, said) =
-            FollowTable::filled_by(grammar, Mode::Corrected, |flat, [follow, first, empty, reached]| {
-                sys::profile(flat, follow, first, empty, reached)
-            });
+        let (follows, said) = FollowTable::filled_by(grammar, |flat, [follow, first, empty, reached]| {
+            sys::profile(flat, follow, first, empty, reached)
+        });
         let said = said.told().expect("a checked grammar and tables of its lengths are not refused");
         (Verdict::of(grammar, said), follows)
     }

@@ -19,7 +19,7 @@ pub enum Refusal {
     Start = 6,
     /// A lent table is not of its exact length. This crate lends no such table.
     TableLength = 7,
-    /// FOLLOW mode other than 1 or 2. [`Mode`](crate::Mode) has no other.
+    /// FOLLOW mode other than 2. This crate asks for no other.
     Mode = 8,
     /// The rule number is R or more.
     RuleNumber = 9,
@@ -39,7 +39,7 @@ pub enum Refusal {
     Room = 15,
     /// The rule has more than 65535 cheapest sentences, or not so many that there is one of this number.
     TooMany = 16,
-    /// A job's kind is above 4, or its next production is P or more. This crate makes no such job.
+    /// A job's kind is 1 or above 4, or its next production is P or more. This crate makes no such job.
     Job = 17,
     /// The file is empty, not whole blocks, or over 98 blocks.
     FileLength = 20,
@@ -112,7 +112,7 @@ impl Refusal {
             Symbol => "a production holds a symbol that is neither a token before eof nor a rule",
             Start => "each production of rule 0, the start, must be exactly one rule, and no production may hold it",
             TableLength => "a table is not as long as this grammar needs it",
-            Mode => "FOLLOW has the modes 1 (the crate's) and 2 (corrected) only",
+            Mode => "FOLLOW has the mode 2 only",
             RuleNumber => "the grammar has no rule with this number",
             TokenNumber => "the grammar has no token with this number",
             ProductionNumber => "the grammar has no production with this number",
@@ -124,7 +124,7 @@ impl Refusal {
             }
             Room => "the sentence is longer than 65535 tokens or than the room for it",
             TooMany => "the rule has more than 65535 cheapest sentences, or none of this number",
-            Job => "a job is of kind 0 to 4, and its next production is one of the grammar",
+            Job => "a job is of kind 0, 2, 3 or 4, and its next production is one of the grammar",
             FileLength => "the file is empty, is not made of whole blocks of 512 bytes, or has more than 98",
             BlockCheck => "a block of the file is damaged: its check does not fit its bytes",
             BlockNumber => "a block of the file is out of place: its number is not its position",

@@ -16,8 +16,12 @@ pub(crate) const COST_UNKNOWN: u32 = 65537;
 /// The tokens of the longest sentence that is given.
 pub(crate) const LENGTH_MAX: usize = 65535;
 
-/// A job's kinds, as in the header; FOLLOW's are its modes, 1 and 2.
+/// The one mode that FOLLOW has.
+pub(crate) const FOLLOW_MODE: u16 = 2;
+
+/// A job's kinds, as in the header.
 pub(crate) const JOB_FIRST: u16 = 0;
+pub(crate) const JOB_FOLLOW: u16 = 2;
 pub(crate) const JOB_PRODUCTIVE: u16 = 3;
 pub(crate) const JOB_COST: u16 = 4;
 

@@ -7,7 +7,7 @@ use std::path::Path;
 use crate::costs::ProductiveTable;
 use crate::follows::FollowTable;
 use crate::sys;
-use crate::{FirstTable, Grammar, Job, Mode, PIdx, RIdx, Reached, Refusal, SIdx, Symbol, TIdx, Whole};
+use crate::{FirstTable, Grammar, Job, PIdx, RIdx, Reached, Refusal, SIdx, Symbol, TIdx, Whole};
 
 /// Numbers that are no rule's, token's or production's where there are so many.
 fn outside(len: u16) -> [u16; 4] {
@@ -59,13 +59,11 @@ fn holds_filled(grm: &Grammar) {
     holds_rule_marks(grm, &firsts.0.empty, |ridx| firsts.is_epsilon_set(ridx));
     holds_productive(&productive.0);
     holds_rule_marks(grm, &productive.0.productive, |ridx| productive.is_set(ridx));
-    for mode in [Mode::Crate, Mode::Corrected] {
-        let follows = grm.follows(mode);
-        holds_follows(grm, &follows.0);
-        holds_marks(grm, &follows.0.follow, |ridx, tidx| follows.is_set(ridx, tidx));
-        assert_eq!(follows.reached().reached, reached.reached);
-        assert_eq!(grm.follow_table(mode).reached().reached, reached.reached);
-    }
+    let follows = grm.follows();
+    holds_follows(grm, &follows.0);
+    holds_marks(grm, &follows.0.follow, |ridx, tidx| follows.is_set(ridx, tidx));
+    assert_eq!(follows.reached().reached, reached.reached);
+    assert_eq!(grm.follow_table().reached().reached, reached.reached);
 }
 
 /// A rule is reached if it is the start or has a path from it.
@@ -196,7 +194,7 @@ fn any_words_are_read_as_the_library_answers() {
         for tokens in [1].into_iter().chain(COUNTS) {
             let grm = random.grammar(rules, tokens);
             let (mut firsts, mut productive) = (grm.first_table(), grm.productive_table());
-            let (mut follows, mut reached) = (grm.follow_table(Mode::Corrected), grm.reached());
+            let (mut follows, mut reached) = (grm.follow_table(), grm.reached());
             for table in [&mut firsts.first, &mut firsts.empty, &mut productive.productive, &mut follows.follow] {
                 random.words(table);
             }
@@ -225,13 +223,11 @@ fn holds_jobs(random: &mut Random, grm: &Grammar) {
     assert_eq!((job.first, job.empty), (firsts.first, firsts.empty));
     assert_eq!(sliced(random, grm.productive_job()).0.productive, grm.productive().0.productive);
     assert_eq!(sliced(random, grm.cost_job()).0.cost, grm.costs().0.cost);
-    for mode in [Mode::Crate, Mode::Corrected] {
-        let (follows, job) = (grm.follows(mode), sliced(random, grm.follow_job(mode)));
-        assert_eq!(job.0.follow, follows.0.follow);
-        let (read, kept) = (&job.firsts().0, &follows.firsts().0);
-        assert_eq!((&read.first, &read.empty), (&kept.first, &kept.empty));
-        assert_eq!(job.reached().reached, follows.reached().reached);
-    }
+    let (follows, job) = (grm.follows(), sliced(random, grm.follow_job()));
+    assert_eq!(job.0.follow, follows.0.follow);
+    let (read, kept) = (&job.firsts().0, &follows.firsts().0);
+    assert_eq!((&read.first, &read.empty), (&kept.first, &kept.empty));
+    assert_eq!(job.reached().reached, follows.reached().reached);
 }
 
 #[test]

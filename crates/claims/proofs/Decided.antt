@@ -11,7 +11,6 @@ use lib.Dec.{eqb, leb}
 use lib.ListN.{length, length-replicate}
 use borrow.Author.Tests.{eqb-true, leb-true, eq-eqb, not-true}
 use Rattle.theory.specs.Definitions.{Cost}
-use Rattle.theory.specs.Follow.{Mode, crate, corrected}
 use Rattle.theory.specs.Grammar.{rul, Grammar}
 use Rattle.theory.specs.Levels.{Chosen, within}
 use Rattle.theory.specs.Search.{Chain, one, link}
@@ -19,7 +18,7 @@ use Rattle.theory.specs.Profile.{Verdict, passes, clashes, Judged}
 use Rattle.theory.specs.Sentences.{Expands}
 use Rattle.theory.specs.Rounds.{run}
 use Rattle.theory.specs.Visits.{firstVisit, firstCleared, among}
-use Rattle.theory.specs.Tables.{Proper, FirstExact, ReachedExact, ReachedFor, FollowExact, ProductiveExact, CostExact}
+use Rattle.theory.specs.Tables.{Proper, FirstExact, ReachedExact, FollowExact, ProductiveExact, CostExact}
 use Rattle.theory.proofs.Bools.{and-split, or-split, or-left, or-right, same, same-is}
 use Rattle.theory.proofs.Choices.{choices-chosen}
 use Rattle.theory.proofs.CostRounds.{cost-any-order}
@@ -113,12 +112,8 @@ module _ (d : Grammar) (ok : Proper d) where
   reached-right : ReachedExact d (reachedFilled d)
   reached-right = settled-exact (reached-any-order d ok) (many d (d .rules)) (all-rounds (d .rules) (upto (d .prods)) (upto-round (d .prods))) (enough (d .rules))
 
-  reached-for : (mode : Mode) → ReachedFor d mode (reachedFilled d)
-  reached-for crate = tt
-  reached-for corrected = reached-right
-
-  follow-right : (mode : Mode) → FollowExact d mode (followFilled d mode)
-  follow-right mode = settled-exact (follow-any-order d ok mode (firstFilled d) first-right (reachedFilled d) (reached-for mode)) (many d (d .rules * d .tokens)) (all-rounds (d .rules * d .tokens) (upto (d .prods)) (upto-round (d .prods))) (enough (d .rules * d .tokens))
+  follow-right : FollowExact d (followFilled d)
+  follow-right = settled-exact (follow-any-order d ok (firstFilled d) first-right (reachedFilled d) reached-right) (many d (d .rules * d .tokens)) (all-rounds (d .rules * d .tokens) (upto (d .prods)) (upto-round (d .prods))) (enough (d .rules * d .tokens))
 
   productive-right : ProductiveExact d (productiveFilled d)
   productive-right = settled-exact (productive-any-order d ok) (many d (d .rules)) (all-rounds (d .rules) (upto (d .prods)) (upto-round (d .prods))) (enough (d .rules))
@@ -154,7 +149,7 @@ so-some (some a) f e = (a, refl, e)
 
 says : (c : Claim) → Proper (denoted (grammarOf c)) → looked c ≡ true → Says c
 says (firstIs g r ts) ok e = λ t l. set-is _ t ts (first-right (denoted g) ok .first r t) (agree-at (length (g .costs)) _ ts e t l)
-says (followIs g mode r ts) ok e = λ t l. set-is _ t ts (follow-right (denoted g) ok mode r t) (agree-at (length (g .costs)) _ ts e t l)
+says (followIs g r ts) ok e = λ t l. set-is _ t ts (follow-right (denoted g) ok r t) (agree-at (length (g .costs)) _ ts e t l)
 says (marksAre g v r ts b) ok e =
     let s = and-split (agree (length (g .costs)) (λ t. run (firstVisit (denoted g)) v firstCleared .first r t) ts) _ e in
     ((λ t l. set-is _ t ts ((λ k. k), λ k. k) (agree-at (length (g .costs)) _ ts (s .0) t l)), same-is _ b (s .1))
@@ -176,8 +171,8 @@ says (sentenceIs g r w) ok e =
 says (path g a by b) ok e = path-chain .1 (leads-is (denoted g) a by b e)
 says (noPath g a b) ok e = λ p. unused-chain (denoted g) b e (path-chain .0 p)
 says (reachedAre g rs) ok e = λ r l. set-is _ r rs (reached-right (denoted g) ok r) (agree-at (g .rules) _ rs e r l)
-says (standsAre g r ts) ok e = λ t l. set-is _ t ts (exact-stands (denoted g) (followFilled (denoted g) corrected) (follow-right (denoted g) ok corrected) r t) (agree-at (length (g .costs)) _ ts e t l)
-says (judged g v) ok e = subst (λ z. Judged (denoted g) z) (verdict-same _ v e) (verdict-judged (denoted g) ok (firstFilled (denoted g)) (first-right (denoted g) ok) (followFilled (denoted g) corrected) (follow-right (denoted g) ok corrected))
+says (standsAre g r ts) ok e = λ t l. set-is _ t ts (exact-stands (denoted g) (followFilled (denoted g)) (follow-right (denoted g) ok) r t) (agree-at (length (g .costs)) _ ts e t l)
+says (judged g v) ok e = subst (λ z. Judged (denoted g) z) (verdict-same _ v e) (verdict-judged (denoted g) ok (firstFilled (denoted g)) (first-right (denoted g) ok) (followFilled (denoted g)) (follow-right (denoted g) ok))
 says (sourceNever g) ok e = λ c x. stuck-never (denoted g) (price g) 32 start (so-some (never g) _ e .1) x
 says (sourceGives g r n w) ok e =
     let c = so-some (costsGiven g) _ e in

@@ -6,7 +6,6 @@ use Prim.Native.Nat.{ℕ, zero, suc, _*_}
 use lib.Dec.{eqb, leb}
 use lib.ListN.{length, replicate}
 use Rattle.theory.specs.Clashes.{verdictBy}
-use Rattle.theory.specs.Follow.{Mode, corrected}
 use Rattle.theory.specs.Grammar.{Grammar}
 use Rattle.theory.specs.Levels.{Choices, choicesBelow, within, expanded}
 use Rattle.theory.specs.Profile.{Verdict, passes, clashes}
@@ -35,8 +34,8 @@ firstFilled d = rounds (firstVisit d) (many d (d .rules * d .tokens)) firstClear
 abbrev pub reachedFilled : Grammar → Row
 reachedFilled d = rounds (reachedVisit d) (many d (d .rules)) reachedBegun
 
-abbrev pub followFilled : Grammar → Mode → Table
-followFilled d mode = rounds (followVisit d mode (firstFilled d) (reachedFilled d)) (many d (d .rules * d .tokens)) (followCleared d)
+abbrev pub followFilled : Grammar → Table
+followFilled d = rounds (followVisit d (firstFilled d) (reachedFilled d)) (many d (d .rules * d .tokens)) (followCleared d)
 
 abbrev pub productiveFilled : Grammar → Row
 productiveFilled d = rounds (productiveVisit d) (many d (d .rules)) productiveCleared
@@ -100,7 +99,7 @@ so (some a) f = f a
 
 abbrev pub looked : Claim → Bool
 looked (firstIs g r ts) = agree (length (g .costs)) (λ t. firstFilled (denoted g) .first r t) ts
-looked (followIs g mode r ts) = agree (length (g .costs)) (λ t. followFilled (denoted g) mode r t) ts
+looked (followIs g r ts) = agree (length (g .costs)) (λ t. followFilled (denoted g) r t) ts
 looked (marksAre g v r ts e) = agree (length (g .costs)) (λ t. run (firstVisit (denoted g)) v firstCleared .first r t) ts && same (run (firstVisit (denoted g)) v firstCleared .empty r) e
 looked (costIs g r n) = eqb (costFilled (denoted g) (price g) r) n
 looked (noSentence g r) = not (productiveFilled (denoted g) r)
@@ -109,8 +108,8 @@ looked (sentenceIs g r w) = within (denoted g) (chosen (denoted g) (price g)) (g
 looked (path g a by b) = leads (denoted g) a by b
 looked (noPath g a b) = unused (denoted g) (denoted g .prods) b
 looked (reachedAre g rs) = agree (g .rules) (reachedFilled (denoted g)) rs
-looked (standsAre g r ts) = agree (length (g .costs)) (λ t. followFilled (denoted g) corrected r t) ts
-looked (judged g v) = sameVerdict (verdictBy (denoted g) (firstFilled (denoted g)) (followFilled (denoted g) corrected)) v
+looked (standsAre g r ts) = agree (length (g .costs)) (λ t. followFilled (denoted g) r t) ts
+looked (judged g v) = sameVerdict (verdictBy (denoted g) (firstFilled (denoted g)) (followFilled (denoted g))) v
 looked (sourceNever g) = so (never g) (λ u. true)
 looked (sourceGives g r n w) = so (costsGiven g) (λ c. eqb (c r) n && so (sentenceGiven g c r) (λ v. sameList v w))
 

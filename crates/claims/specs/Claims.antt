@@ -7,7 +7,7 @@ use Prim.Native.Nat.{ℕ, _≤_, _<_}
 use lib.ListN.{length}
 use Rattle.theory.specs.Entries.{costMax}
 use Rattle.theory.specs.Definitions.{First, Productive, Cost, Path, Reached}
-use Rattle.theory.specs.Follow.{Mode, crate, corrected, Follow, Stands}
+use Rattle.theory.specs.Follow.{Follow, Stands}
 use Rattle.theory.specs.Grammar.{rul}
 use Rattle.theory.specs.Profile.{Verdict, passes, clashes, Judged}
 use Rattle.theory.specs.Rounds.{run}
@@ -23,7 +23,7 @@ use Rattle.claims.specs.Grammars.{g1, g2, g3, g4, g6, dead, exports, van
 -- a set is given by its tokens; `by` names the rules between, as a hint to the test
 pub data Claim : Type 0 where
   firstIs : Flat → (r : ℕ) → (tokens : List ℕ) → Claim
-  followIs : Flat → Mode → (r : ℕ) → (tokens : List ℕ) → Claim
+  followIs : Flat → (r : ℕ) → (tokens : List ℕ) → Claim
   marksAre : Flat → (visits : List ℕ) → (r : ℕ) → (tokens : List ℕ) → (empty : Bool) → Claim
   costIs : Flat → (r n : ℕ) → Claim
   noSentence : Flat → (r : ℕ) → Claim
@@ -40,7 +40,7 @@ pub data Claim : Type 0 where
 -- the grammar that a claim speaks of
 abbrev pub grammarOf : Claim → Flat
 grammarOf (firstIs g r ts) = g
-grammarOf (followIs g mode r ts) = g
+grammarOf (followIs g r ts) = g
 grammarOf (marksAre g v r ts e) = g
 grammarOf (costIs g r n) = g
 grammarOf (noSentence g r) = g
@@ -58,8 +58,8 @@ grammarOf (sourceGives g r n w) = g
 abbrev pub Says : Claim → Type 0
 -- FIRST(r) is the set
 Says (firstIs g r ts) = (t : ℕ) → t < length (g .costs) → First (denoted g) r t ↔ List·Memᴰ t ts
--- FOLLOW(r) of the mode is the set
-Says (followIs g mode r ts) = (t : ℕ) → t < length (g .costs) → Follow (denoted g) mode r t ↔ List·Memᴰ t ts
+-- FOLLOW(r) is the set
+Says (followIs g r ts) = (t : ℕ) → t < length (g .costs) → Follow (denoted g) r t ↔ List·Memᴰ t ts
 -- after these FIRST visits from cleared tables r has these FIRST marks, and this EMPTY mark
 Says (marksAre g v r ts e) = ((t : ℕ) → t < length (g .costs) → (run (firstVisit (denoted g)) v firstCleared .first r t ≡ true) ↔ List·Memᴰ t ts) × (run (firstVisit (denoted g)) v firstCleared .empty r ≡ e)
 -- COST(r) is n
@@ -96,14 +96,12 @@ AllMean (c ∷ cs) = Means c × AllMean cs
 abbrev pub starred : List Claim
 starred =
     firstIs g1 1 (0 ∷ 2 ∷ [])
-    ∷ followIs g1 corrected 2 (0 ∷ [])
-    ∷ followIs g1 crate 2 (0 ∷ [])
+    ∷ followIs g1 2 (0 ∷ [])
     ∷ costIs g1 1 1
     ∷ sentenceIs g1 0 (0 ∷ [])
     ∷ marksAre g1 (5 ∷ 0 ∷ 1 ∷ 2 ∷ 3 ∷ 4 ∷ []) 1 [] false
     ∷ marksAre g1 (5 ∷ 0 ∷ 1 ∷ 2 ∷ 3 ∷ 4 ∷ 5 ∷ 0 ∷ 1 ∷ 2 ∷ 3 ∷ 4 ∷ []) 1 (0 ∷ 2 ∷ []) false
-    ∷ followIs g2 crate 2 (1 ∷ [])
-    ∷ followIs g2 corrected 2 (1 ∷ 2 ∷ [])
+    ∷ followIs g2 2 (1 ∷ 2 ∷ [])
     ∷ costIs g3 1 1
     ∷ sourceNever g3
     ∷ circular g3 1
@@ -120,22 +118,19 @@ starred =
 abbrev pub repeats : List Claim
 repeats = sourceGives g1 0 1 (0 ∷ 0 ∷ []) ∷ []
 
--- of the change requests: L2, z stands after A in mode 1 and not in mode 2; L7, both exports are followed by eof, and the start has the cheaper one's sentence; L8, who passes, and the least clash: T where two vanish and share none, FOLLOW of the owner added, productions 0 and 5 before 1 and 2
+-- of the change requests: L2, z does not stand after A; L7, both exports are followed by eof, and the start has the cheaper one's sentence; L8, who passes, and the least clash: T where two vanish and share none, FOLLOW of the owner added, productions 0 and 5 before 1 and 2
 abbrev pub requested : List Claim
 requested =
     reachedAre dead (0 ∷ 1 ∷ 2 ∷ [])
-    ∷ followIs dead crate 2 (1 ∷ 2 ∷ [])
-    ∷ followIs dead corrected 2 (2 ∷ [])
+    ∷ followIs dead 2 (2 ∷ [])
     ∷ standsAre dead 2 (2 ∷ [])
-    ∷ followIs dead corrected 3 []
+    ∷ followIs dead 3 []
     ∷ standsAre g2 2 (1 ∷ 2 ∷ [])
     ∷ reachedAre exports (0 ∷ 1 ∷ 2 ∷ [])
     ∷ standsAre exports 2 (2 ∷ [])
     ∷ firstIs exports 0 (0 ∷ [])
-    ∷ followIs exports crate 1 (2 ∷ [])
-    ∷ followIs exports crate 2 (2 ∷ [])
-    ∷ followIs exports corrected 1 (2 ∷ [])
-    ∷ followIs exports corrected 2 (2 ∷ [])
+    ∷ followIs exports 1 (2 ∷ [])
+    ∷ followIs exports 2 (2 ∷ [])
     ∷ costIs exports 0 1
     ∷ costIs exports 2 2
     ∷ sentenceIs exports 0 (0 ∷ [])

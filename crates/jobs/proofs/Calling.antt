@@ -1,15 +1,13 @@
 -- What the returns of a slice owe, from what `check` and the tests on the way answered.
 use mathlib.Core.Bool.{Bool, true, false, cond, _||_}
 use mathlib.Core.List.{List}
-use mathlib.Core.Logic.{inl, inr}
 use mathlib.Core.Path.{_≡_, refl, sym, _∙_, ap, subst}
 use Prim.Native.Nat.{ℕ, _*_, _<_}
 use native.Mathlib.Omega.{arith}
-use lib.Dec.{eqb, leb, ltb}
+use lib.Dec.{eqb, ltb}
 use lib.ListN.{length}
-use borrow.Author.Tests.{eqb-true, ne-eqb, leb-false}
-use Rattle.theory.specs.Follow.{crate, corrected}
-use Rattle.theory.proofs.Bools.{or-split, or-none}
+use borrow.Author.Tests.{ne-eqb, leb-false}
+use Rattle.theory.proofs.Bools.{or-none}
 use Rattle.theory.specs.Slices.{Slice}
 use Rattle.grammar.specs.Flat.{Flat}
 use Rattle.grammar.specs.Outcome.{answers, refused}
@@ -24,9 +22,11 @@ use Rattle.tables.specs.Sizes.{words, tableWrong, rowWrong, numbersWrong}
 use Rattle.tables.proofs.Asking.{table-long, row-long, numbers-long}
 use Rattle.tables.proofs.Calls.{call-refused, call-does}
 use Rattle.firsts.specs.Lent.{lent as firsts, Held as FirstHeld}
+use Rattle.follows.specs.Calls.{lentWrong}
+use Rattle.follows.specs.Lent.{reads, lent}
 use Rattle.jobs.specs.declared.Job.{Job}
 use Rattle.jobs.specs.Kinds.{Tables, tables, readOf, first, follow, productive, cost, kindOf, kindWrong, FollowHeld, Held, Visit}
-use Rattle.jobs.specs.Calls.{progress, progressOf, jobAt, sliceDue, lends, Works, Workable}
+use Rattle.jobs.specs.Calls.{progress, progressOf, jobAt, jobWrong, sliceDue, lends, Works, Workable}
 
 -- `wrong`
 module _ (n R T : ℕ) (a e f r c h : List ℕ) where
@@ -36,14 +36,14 @@ module _ (n R T : ℕ) (a e f r c h : List ℕ) where
   pub wrong-first : n ≡ 0 → (x y : Bool) → x ≡ tableWrong R T a → y ≡ rowWrong R e → (x || y) ≡ kindWrong (kindOf n t) R T t
   wrong-first q x y ex ey = rw (ex, ey) (ap (λ z. kindWrong (kindOf z t) R T t) (sym q))
 
-  pub wrong-follow : (eqb n 1 || eqb n 2) ≡ true → (x y z w : Bool) → x ≡ tableWrong R T f → y ≡ tableWrong R T a → z ≡ rowWrong R e → w ≡ rowWrong R h → (x || (y || (z || w))) ≡ kindWrong (kindOf n t) R T t
-  wrong-follow q x y z w ex ey ez ew = rw (ex, ey, ez, ew) (elim (or-split (eqb n 1) (eqb n 2) q) [ inl k ↦ ap (λ z. kindWrong (kindOf z t) R T t) (sym (eqb-true n 1 k)) | inr k ↦ ap (λ z. kindWrong (kindOf z t) R T t) (sym (eqb-true n 2 k)) ])
+  pub wrong-follow : n ≡ 2 → (x : Bool) → x ≡ lentWrong R T (lent f (reads (firsts a e) h)) → x ≡ kindWrong (kindOf n t) R T t
+  wrong-follow q x ex = ex ∙ ap (λ z. kindWrong (kindOf z t) R T t) (sym q)
 
   pub wrong-row : n ≡ 3 → (x : Bool) → x ≡ rowWrong R r → x ≡ kindWrong (kindOf n t) R T t
   wrong-row q x ex = ex ∙ ap (λ z. kindWrong (kindOf z t) R T t) (sym q)
 
-  pub wrong-cost : (n ≡ 0 → ⊥) → (eqb n 1 || eqb n 2) ≡ false → (n ≡ 3 → ⊥) → (x : Bool) → x ≡ numbersWrong R c → x ≡ kindWrong (kindOf n t) R T t
-  wrong-cost q0 q q3 x ex = let s = or-none (eqb n 1) (eqb n 2) q in ex ∙ rw (ne-eqb n 0 q0, s .0, s .1, ne-eqb n 3 q3)
+  pub wrong-cost : (n ≡ 0 → ⊥) → (n ≡ 2 → ⊥) → (n ≡ 3 → ⊥) → (x : Bool) → x ≡ numbersWrong R c → x ≡ kindWrong (kindOf n t) R T t
+  wrong-cost q0 q2 q3 x ex = ex ∙ rw (ne-eqb n 0 q0, ne-eqb n 2 q2, ne-eqb n 3 q3)
 
 -- every number of every table is one of 32 bits
 pub record Words (t : Tables) : Type 0 where
@@ -63,7 +63,7 @@ module _ (g : Flat) (t : Tables) (small : Words t) where
     empty = record { len = row-long (g .rules) (t .empty) (s .1) ∙ one-row (g .rules); small = small .empty };
   }
 
-  follow-held : (tableWrong (g .rules) (length (g .costs)) (t .follow) || (tableWrong (g .rules) (length (g .costs)) (t .first) || (rowWrong (g .rules) (t .empty) || rowWrong (g .rules) (t .reached)))) ≡ false → FollowHeld g (readOf t) (t .follow)
+  follow-held : lentWrong (g .rules) (length (g .costs)) (lent (t .follow) (readOf t)) ≡ false → FollowHeld g (readOf t) (t .follow)
   follow-held e =
       let s = or-none (tableWrong (g .rules) (length (g .costs)) (t .follow)) _ e in
       let u = or-none (tableWrong (g .rules) (length (g .costs)) (t .first)) _ (s .1) in
@@ -75,20 +75,19 @@ module _ (g : Flat) (t : Tables) (small : Words t) where
       }
 
   held-right : (n : ℕ) → kindWrong (kindOf n t) (g .rules) (length (g .costs)) t ≡ false → Held (kindOf n t) g t
-  held-right n e = go (eqb n 0) (eqb n 1) (eqb n 2) (eqb n 3) e
+  held-right n e = go (eqb n 0) (eqb n 2) (eqb n 3) e
     where
-      go : (q0 q1 q2 q3 : Bool) → kindWrong (cond q0 first (cond q1 (follow crate (readOf t)) (cond q2 (follow corrected (readOf t)) (cond q3 productive cost)))) (g .rules) (length (g .costs)) t ≡ false
-          → Held (cond q0 first (cond q1 (follow crate (readOf t)) (cond q2 (follow corrected (readOf t)) (cond q3 productive cost)))) g t
-      go true q1 q2 q3 k = firsts-held k
-      go false true q2 q3 k = follow-held k
-      go false false true q3 k = follow-held k
-      go false false false true k = record { len = row-long (g .rules) (t .productive) k ∙ one-row (g .rules); small = small .productive }
-      go false false false false k = numbers-long (g .rules) (t .cost) k
+      go : (q0 q2 q3 : Bool) → kindWrong (cond q0 first (cond q2 (follow (readOf t)) (cond q3 productive cost))) (g .rules) (length (g .costs)) t ≡ false
+          → Held (cond q0 first (cond q2 (follow (readOf t)) (cond q3 productive cost))) g t
+      go true q2 q3 k = firsts-held k
+      go false true q3 k = follow-held k
+      go false false true k = record { len = row-long (g .rules) (t .productive) k ∙ one-row (g .rules); small = small .productive }
+      go false false false k = numbers-long (g .rules) (t .cost) k
 
 -- `sliced`
 module _ (g : Flat) (n : ℕ) (j : Job) (t : Tables) (c : Checked) (is : checkedIs c ≡ checkOf g) (e : c ≡ Well) (w : ℕ) (ew : w ≡ j .next .0) where
   abbrev bad : Bool
-  bad = ltb 4 (j .kind) || leb (length (g .owners)) w
+  bad = jobWrong (length (g .owners)) (j .kind) w
 
   pub slice-17 : bad ≡ true → Call (sliceDue g j t) (Works g n j t) (lends j t) (refused 17) (lends j t)
   slice-17 k = call-refused 17 (after-well g c _ is e ∙ rw (← ew, k))
@@ -102,7 +101,7 @@ module _ (g : Flat) (n : ℕ) (j : Job) (t : Tables) (c : Checked) (is : checked
         pub slice-workable : Words t → Workable (kindOf (j .kind) t) g (j .next .0) t
         slice-workable s = record {
           well = well g (sym is ∙ ap checkedIs e);
-          below = subst (λ z. z < length (g .owners)) ew (leb-false (length (g .owners)) w (or-none (ltb 4 (j .kind)) _ k .1));
+          below = subst (λ z. z < length (g .owners)) ew (leb-false (length (g .owners)) w (or-none (ltb 4 (j .kind)) _ (or-none (eqb (j .kind) 1) _ k .1) .1));
           held = held-right g t s (j .kind) (ap (λ z. kindWrong (kindOf (j .kind) t) z (length (g .costs)) t) (sym er) ∙ sym ex ∙ q);
         }
 

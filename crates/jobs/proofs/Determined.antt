@@ -23,7 +23,7 @@ use Rattle.jobs.specs.Calls.{slicedIs, jobAt, sliceDue, Lends, lends, Wo
 made-one : (k : Kind) (g : Flat) (p : ℕ) (a b d : Tables) → Became k g p a b → Became k g p a d → b ≡ d
 made-one first g p a b d x y =
     x .others ∙ ap (λ (z : Firsts). tables (z .first) (z .empty) (a .follow) (a .productive) (a .cost) (a .reached)) (first-became-one g p (firsts (a .first) (a .empty)) (firsts (b .first) (b .empty)) (firsts (d .first) (d .empty)) (x .step) (y .step)) ∙ sym (y .others)
-made-one (follow mode read) g p a b d x y =
+made-one (follow read) g p a b d x y =
     x .others ∙ ap (λ z. tables (a .first) (a .empty) z (a .productive) (a .cost) (a .reached)) (became-one (g .rules) (length (g .costs)) (words (length (g .costs))) (a .follow) (b .follow) (d .follow) _ (x .step) (y .step)) ∙ sym (y .others)
 made-one productive g p a b d x y =
     x .others ∙ ap (λ z. tables (a .first) (a .empty) (a .follow) z (a .cost) (a .reached)) (row-one (g .rules) (words (g .rules)) (a .productive) (b .productive) (d .productive) _ (x .step) (y .step)) ∙ sym (y .others)

@@ -74,9 +74,9 @@ module _ (g : Flat) (w : WellFormed g) where
   kind-comes first t c {d = d} s =
       let x = part-comes getFirst putFirst lensFirst (firstStepping g w) (first-any-order (denoted g) (proper g w)) t (firstZeros g) c (first-held g) (zeros-marks g) (first-inv g w (firstZeros g) (zeros-begun g w)) some s in
       record { left = λ e. settled-defined g w (getFirst d) (x .settles e); ends = x .ends; always = x .holds }
-  kind-comes (follow mode read) t c {d = d} s =
-      let x = part-comes (λ t. t .follow) putFollow lensFollow (followStepping g w mode read) (any-order g w mode read (c .0)) t (begun g) (c .1) (begun-held g w) (begun-table g w) (words-in g w mode read (begun g)) some s in
-      record { left = λ e. follow-defined g w mode read (c .0) (d .follow) (x .settles e); ends = x .ends; always = x .holds }
+  kind-comes (follow read) t c {d = d} s =
+      let x = part-comes (λ t. t .follow) putFollow lensFollow (followStepping g w read) (any-order g w read (c .0)) t (begun g) (c .1) (begun-held g w) (begun-table g w) (words-in g w read (begun g)) some s in
+      record { left = λ e. follow-defined g w read (c .0) (d .follow) (x .settles e); ends = x .ends; always = x .holds }
   kind-comes productive t c {d = d} s =
       let x = part-comes (λ t. t .productive) putProductive lensProductive (rowStepping g w) (productive-any-order (denoted g) (proper g w)) t (rowZeros g) c (row-held g) (zeros-row g) (row-column (g .rules) (rowZeros g)) some s in
       record {

@@ -1,18 +1,15 @@
 -- Which kind a number means: what its step asks, and what it leaves among all the tables.
-use mathlib.Core.Bool.{Bool, true, false, _||_, false≢true}
+use mathlib.Core.Bool.{Bool, false, false≢true}
 use mathlib.Core.List.{List}
-use mathlib.Core.Logic.{inl, inr}
 use mathlib.Core.Path.{_≡_, refl, sym, ap, subst}
 use Prim.Native.Nat.{ℕ}
-use lib.Dec.{eqb}
 use lib.ListN.{length}
-use borrow.Author.Tests.{eqb-true, ne-eqb}
-use Rattle.theory.proofs.Bools.{or-split, or-none}
+use borrow.Author.Tests.{ne-eqb}
 use Rattle.grammar.specs.Flat.{Flat}
 use Rattle.tables.specs.Call.{Stepped}
 use Rattle.firsts.specs.Lent.{lent as firsts}
 use Rattle.firsts.specs.Step.{Ready as FirstReady, FirstBecame}
-use Rattle.follows.specs.Step.{kind, FollowBecame}
+use Rattle.follows.specs.Step.{FollowBecame}
 use Rattle.follows.specs.Tail.{StepReady as FollowReady}
 use Rattle.costs.specs.Step.{RowReady, ProductiveBecame}
 use Rattle.costs.specs.Reads.{Lowerable, Lowers}
@@ -42,18 +39,18 @@ module _ (n : ℕ) (g : Flat) (p : ℕ) (a e f r c h : List ℕ) where
       still = λ k. ap (λ y. tables (y .first) (y .empty) f r c h) (s .still k);
     })
 
-  module _ (q : (eqb n 1 || eqb n 2) ≡ true) where
-    is-follow : kindOf n t ≡ follow (kind (eqb n 2)) (readOf t)
-    is-follow = elim (or-split (eqb n 1) (eqb n 2) q) [ inl k ↦ rw (eqb-true n 1 k) | inr k ↦ rw (eqb-true n 2 k) ]
+  module _ (q : n ≡ 2) where
+    is-follow : kindOf n t ≡ follow (readOf t)
+    is-follow = ap (λ z. kindOf z t) q
 
-    pub ready-follow : Ready (kindOf n t) g p t → FollowReady g (kind (eqb n 2)) p false (readOf t) f
-    ready-follow x = let y = ready (follow (kind (eqb n 2)) (readOf t)) is-follow x in record {
+    pub ready-follow : Ready (kindOf n t) g p t → FollowReady g p false (readOf t) f
+    ready-follow x = let y = ready (follow (readOf t)) is-follow x in record {
       ready = record { first = record { well = y .well; isProd = y .isProd; held = y .held .firsts }; reached = y .held .reached; follows = y .held .follows };
       feeds = λ k. absurd (false≢true k);
     }
 
-    pub made-follow : (x : Bool) (f′ : List ℕ) → Stepped (FollowBecame g (kind (eqb n 2)) (readOf t) p f) f x f′ → Visit (kindOf n t) g p t x (tables a e f′ r c h)
-    made-follow x f′ s = visited (follow (kind (eqb n 2)) (readOf t)) is-follow x (tables a e f′ r c h) (record {
+    pub made-follow : (x : Bool) (f′ : List ℕ) → Stepped (FollowBecame g (readOf t) p f) f x f′ → Visit (kindOf n t) g p t x (tables a e f′ r c h)
+    made-follow x f′ s = visited (follow (readOf t)) is-follow x (tables a e f′ r c h) (record {
       became = record { step = s .became; others = refl };
       told = λ k z. s .told k (ap (λ y. y .follow) z);
       still = λ k. ap (λ y. tables a e y r c h) (s .still k);
@@ -73,9 +70,9 @@ module _ (n : ℕ) (g : Flat) (p : ℕ) (a e f r c h : List ℕ) where
       still = λ k. ap (λ y. tables a e f y c h) (s .still k);
     })
 
-  module _ (q0 : n ≡ 0 → ⊥) (q : (eqb n 1 || eqb n 2) ≡ false) (q3 : n ≡ 3 → ⊥) where
+  module _ (q0 : n ≡ 0 → ⊥) (q2 : n ≡ 2 → ⊥) (q3 : n ≡ 3 → ⊥) where
     is-cost : kindOf n t ≡ cost
-    is-cost = let s = or-none (eqb n 1) (eqb n 2) q in rw (ne-eqb n 0 q0, s .0, s .1, ne-eqb n 3 q3)
+    is-cost = rw (ne-eqb n 0 q0, ne-eqb n 2 q2, ne-eqb n 3 q3)
 
     pub ready-cost : Ready (kindOf n t) g p t → (read : List Bool) → length read ≡ 512 → Lowerable g p c read
     ready-cost x read l = let y = ready cost is-cost x in record { ready = record { well = y .well; isProd = y .isProd; long = y .held }; long = l }

@@ -8,7 +8,6 @@ use native.Mathlib.Omega.{arith}
 use lib.Dec.{eqb, ltb}
 use lib.ListN.{length}
 use borrow.Author.Tests.{eq-eqb, ne-eqb, ltb-true, ltb-false, not-true}
-use Rattle.theory.specs.Follow.{crate, corrected}
 use Rattle.theory.proofs.Bools.{and-split}
 use Rattle.theory.specs.Slices.{Progress, after, Slice, full}
 use Rattle.theory.proofs.Slices.{slice-append, slice-stop, after-below}
@@ -31,7 +30,7 @@ more-left made n over e = ltb-true made n (and-split (ltb made n) _ e .0)
 -- a visit keeps the kind's tables of their lengths
 pub held-on : (k : Kind) (g : Flat) (p : ℕ) (a : Tables) (x : Bool) (b : Tables) → Held k g a → Visit k g p a x b → Held k g b
 held-on first g p a x b h v = record { first = v .became .step .first .sized; empty = v .became .step .empty .sized }
-held-on (follow mode read) g p a x b h v = record { firsts = h .firsts; reached = h .reached; follows = v .became .step .sized }
+held-on (follow read) g p a x b h v = record { firsts = h .firsts; reached = h .reached; follows = v .became .step .sized }
 held-on productive g p a x b h v = v .became .step .sized
 held-on cost g p a x b h v = v .became .step .long ∙ h
 
@@ -63,7 +62,7 @@ long-on first g p a x b h v = record {
   productive = ap (λ (z : Tables). length (z .productive)) (v .became .others);
   cost = ap (λ (z : Tables). length (z .cost)) (v .became .others);
 }
-long-on (follow mode read) g p a x b h v = record {
+long-on (follow read) g p a x b h v = record {
   first = ap (λ (z : Tables). length (z .first)) (v .became .others);
   empty = ap (λ (z : Tables). length (z .empty)) (v .became .others);
   follow = v .became .step .sized .len ∙ sym (h .follows .len);
@@ -87,15 +86,14 @@ long-on cost g p a x b h v = record {
 
 -- and the kind: FOLLOW reads what it read
 pub kind-on : (n : ℕ) (g : Flat) (p : ℕ) (a : Tables) (x : Bool) (b : Tables) → Visit (kindOf n a) g p a x b → kindOf n b ≡ kindOf n a
-kind-on n g p a x b v = go (eqb n 0) (eqb n 1) (eqb n 2) (eqb n 3) (v .became)
+kind-on n g p a x b v = go (eqb n 0) (eqb n 2) (eqb n 3) (v .became)
   where
-    go : (q0 q1 q2 q3 : Bool) → Became (cond q0 first (cond q1 (follow crate (readOf a)) (cond q2 (follow corrected (readOf a)) (cond q3 productive cost)))) g p a b
-        → cond q0 first (cond q1 (follow crate (readOf b)) (cond q2 (follow corrected (readOf b)) (cond q3 productive cost)))
-        ≡ cond q0 first (cond q1 (follow crate (readOf a)) (cond q2 (follow corrected (readOf a)) (cond q3 productive cost)))
-    go true q1 q2 q3 s = refl
-    go false true q2 q3 s = ap (λ (z : Tables). follow crate (readOf z)) (s .others)
-    go false false true q3 s = ap (λ (z : Tables). follow corrected (readOf z)) (s .others)
-    go false false false q3 s = refl
+    go : (q0 q2 q3 : Bool) → Became (cond q0 first (cond q2 (follow (readOf a)) (cond q3 productive cost))) g p a b
+        → cond q0 first (cond q2 (follow (readOf b)) (cond q3 productive cost))
+        ≡ cond q0 first (cond q2 (follow (readOf a)) (cond q3 productive cost))
+    go true q2 q3 s = refl
+    go false true q3 s = ap (λ (z : Tables). follow (readOf z)) (s .others)
+    go false false q3 s = refl
 
 -- the loop so far: `made` visits from where the job stood
 pub record Working (kind : ℕ) (g : Flat) (next : ℕ) (changed done : Bool) (t : Tables) (at : ℕ) (new over : Bool) (now : Tables) (made : ℕ) : Type 0 where

@@ -2,7 +2,7 @@
 use mathlib.Core.Bool.{Bool, _||_}
 use mathlib.Core.Path.{_≡_}
 use Prim.Native.Nat.{ℕ, _<_}
-use lib.Dec.{leb, ltb}
+use lib.Dec.{eqb, leb, ltb}
 use lib.ListN.{length}
 use Rattle.theory.specs.Slices.{Progress, Slice}
 use Rattle.grammar.specs.Flat.{Flat}
@@ -30,11 +30,15 @@ progressOf j = progress (j .next .0) (j .changed) (j .done)
 abbrev pub jobAt : (kind : ℕ) → Progress → Job
 jobAt kind p = record { kind = kind; next = record { 0 = p .next }; changed = p .changed; done = p .done }
 
--- 1 to 6; then 17, the kind is above 4 or the next production is P or more; then 7 for the kind's tables
+-- 17: the kind is 1 or above 4, or the next production is P or more
+abbrev pub jobWrong : (P kind next : ℕ) → Bool
+jobWrong P kind next = eqb kind 1 || (ltb 4 kind || leb P next)
+
+-- 1 to 6; then 17; then 7 for the kind's tables
 abbrev pub sliceDue : Flat → Job → Tables → Outcome (Unit {0})
 sliceDue g j t =
     unlessDue g
-    (unless (ltb 4 (j .kind) || leb (length (g .owners)) (j .next .0)) 17
+    (unless (jobWrong (length (g .owners)) (j .kind) (j .next .0)) 17
     (unless (kindWrong (kindOf (j .kind) t) (g .rules) (length (g .costs)) t) 7 (answers tt)))
 
 -- what is lent

@@ -5,7 +5,6 @@ use mathlib.Core.Path.{_≡_}
 use Prim.Native.Nat.{ℕ, _<_}
 use lib.Dec.{eqb}
 use lib.ListN.{length}
-use Rattle.theory.specs.Follow.{Mode, crate, corrected}
 use Rattle.grammar.specs.Flat.{Flat}
 use Rattle.grammar.specs.Well.{WellFormed}
 use Rattle.rows.specs.Tables.{Sized}
@@ -13,7 +12,8 @@ use Rattle.tables.specs.Call.{Stepped}
 use Rattle.tables.specs.Sizes.{words, tableWrong, rowWrong, numbersWrong}
 use Rattle.firsts.specs.Lent.{lent as firsts, Held as FirstHeld}
 use Rattle.firsts.specs.Step.{FirstBecame}
-use Rattle.follows.specs.Lent.{Reads, reads}
+use Rattle.follows.specs.Calls.{lentWrong}
+use Rattle.follows.specs.Lent.{Reads, reads, lent}
 use Rattle.follows.specs.Step.{FollowBecame}
 use Rattle.costs.specs.Step.{ProductiveBecame, CostBecame}
 
@@ -34,20 +34,20 @@ tables first empty follow productive cost reached = record { first = first; empt
 abbrev pub readOf : Tables → Reads
 readOf t = reads (firsts (t .first) (t .empty)) (t .reached)
 
--- FOLLOW has its mode, and what its visits read
+-- FOLLOW has what its visits read
 pub data Kind : Type 0 where
   first : Kind
-  follow : Mode → Reads → Kind
+  follow : Reads → Kind
   productive cost : Kind
 
--- 0 FIRST, 1 and 2 FOLLOW by mode, 3 PRODUCTIVE, 4 COST
+-- 0 FIRST, 2 FOLLOW, 3 PRODUCTIVE, 4 COST; 1 is no kind
 abbrev pub kindOf : ℕ → Tables → Kind
-kindOf n t = cond (eqb n 0) first (cond (eqb n 1) (follow crate (readOf t)) (cond (eqb n 2) (follow corrected (readOf t)) (cond (eqb n 3) productive cost)))
+kindOf n t = cond (eqb n 0) first (cond (eqb n 2) (follow (readOf t)) (cond (eqb n 3) productive cost))
 
 -- 7: a table of the kind is not of its exact length; the others are not looked at
 abbrev pub kindWrong : Kind → (R T : ℕ) → Tables → Bool
 kindWrong first R T t = tableWrong R T (t .first) || rowWrong R (t .empty)
-kindWrong (follow mode read) R T t = tableWrong R T (t .follow) || (tableWrong R T (t .first) || (rowWrong R (t .empty) || rowWrong R (t .reached)))
+kindWrong (follow read) R T t = lentWrong R T (lent (t .follow) (readOf t))
 kindWrong productive R T t = rowWrong R (t .productive)
 kindWrong cost R T t = numbersWrong R (t .cost)
 
@@ -60,7 +60,7 @@ pub record FollowHeld (g : Flat) (read : Reads) (follow : List ℕ) : Type 0 whe
 -- the tables of the kind are of their exact lengths
 abbrev pub Held : Kind → Flat → Tables → Type 0
 Held first g t = FirstHeld (g .rules) (length (g .costs)) (firsts (t .first) (t .empty))
-Held (follow mode read) g t = FollowHeld g read (t .follow)
+Held (follow read) g t = FollowHeld g read (t .follow)
 Held productive g t = Sized 1 (words (g .rules)) (t .productive)
 Held cost g t = length (t .cost) ≡ g .rules
 
@@ -72,7 +72,7 @@ pub record Made (Step : Type 0) (after to : Tables) : Type 0 where
 -- production p's step of the kind, as its visit makes it
 abbrev pub Became : Kind → Flat → ℕ → Tables → Tables → Type 0
 Became first g p a b = Made (FirstBecame g p (firsts (a .first) (a .empty)) (firsts (b .first) (b .empty))) b (tables (b .first) (b .empty) (a .follow) (a .productive) (a .cost) (a .reached))
-Became (follow mode read) g p a b = Made (FollowBecame g mode read p (a .follow) (b .follow)) b (tables (a .first) (a .empty) (b .follow) (a .productive) (a .cost) (a .reached))
+Became (follow read) g p a b = Made (FollowBecame g read p (a .follow) (b .follow)) b (tables (a .first) (a .empty) (b .follow) (a .productive) (a .cost) (a .reached))
 Became productive g p a b = Made (ProductiveBecame g p (a .productive) (b .productive)) b (tables (a .first) (a .empty) (a .follow) (b .productive) (a .cost) (a .reached))
 Became cost g p a b = Made (CostBecame g p (a .cost) (b .cost)) b (tables (a .first) (a .empty) (a .follow) (a .productive) (b .cost) (a .reached))
 

@@ -10,7 +10,7 @@ use Rattle.grammar.specs.Outcome.{answers, refused}
 use Rattle.firsts.specs.Lent.{lent as firsts, marksOf}
 use Rattle.firsts.specs.Calls.{Defined as FirstDefined, zeros as firstZeros}
 use Rattle.follows.specs.Lent.{tableOf}
-use Rattle.follows.specs.Calls.{Defined as FollowDefined, FinishedFor, begun}
+use Rattle.follows.specs.Calls.{Defined as FollowDefined, Finished, begun}
 use Rattle.costs.specs.Lent.{rowOf, costsOf}
 use Rattle.costs.specs.Calls.{zeros as rowZeros, unknown}
 use Rattle.costs.specs.Defined.{ProductiveDefined, CostDefined}
@@ -26,28 +26,28 @@ freshJob kind = jobAt kind fresh
 -- the kind's tables are cleared, and FOLLOW reads finished ones
 abbrev pub Cleared : Kind → Flat → Tables → Type 0
 Cleared first g t = firsts (t .first) (t .empty) ≡ firstZeros g
-Cleared (follow mode read) g t = FinishedFor g mode read × (t .follow ≡ begun g)
+Cleared (follow read) g t = Finished g read × (t .follow ≡ begun g)
 Cleared productive g t = t .productive ≡ rowZeros g
 Cleared cost g t = t .cost ≡ unknown g
 
 -- the kind's tables are what its fill leaves
 abbrev pub Defined : Kind → Flat → Tables → Type 0
 Defined first g t = FirstDefined g (firsts (t .first) (t .empty))
-Defined (follow mode read) g t = FollowDefined g mode (t .follow)
+Defined (follow read) g t = FollowDefined g (t .follow)
 Defined productive g t = ProductiveDefined g (t .productive)
 Defined cost g t = CostDefined g (t .cost)
 
 -- what the kind's tables hold is true: each mark, and each cost is some sentence's
 abbrev pub True : Kind → Flat → Tables → Type 0
 True first g t = FirstTrue (denoted g) (marksOf (g .rules) (length (g .costs)) (firsts (t .first) (t .empty)))
-True (follow mode read) g t = FollowTrue (denoted g) mode (tableOf (g .rules) (length (g .costs)) (t .follow))
+True (follow read) g t = FollowTrue (denoted g) (tableOf (g .rules) (length (g .costs)) (t .follow))
 True productive g t = ProductiveTrue (denoted g) (rowOf (g .rules) (t .productive))
 True cost g t = CostTrue (denoted g) (price g) (costsOf (t .cost))
 
 -- demand 3's number of rounds, and R for PRODUCTIVE
 abbrev pub bound : Kind → Flat → ℕ
 bound first g = g .rules * length (g .costs)
-bound (follow mode read) g = g .rules * length (g .costs)
+bound (follow read) g = g .rules * length (g .costs)
 bound productive g = g .rules
 bound cost g = g .rules
 

@@ -1,8 +1,8 @@
 // A job below the public call: one production's step of a kind, where the job stands after it, visits one after another.
 use crate::JOB_COST;
 use crate::JOB_FIRST;
-use crate::JOB_FOLLOW_CORRECTED;
-use crate::JOB_FOLLOW_CRATE;
+use crate::JOB_FOLLOW;
+use crate::JOB_NONE;
 use crate::JOB_PRODUCTIVE;
 use crate::Job;
 use crate::Sliced;
@@ -46,14 +46,13 @@ fn step(
     if kind == JOB_FIRST {
         return firsts::inner::step(rules, owners, starts, symbols, costs, p, first, empty);
     }
-    if (kind == JOB_FOLLOW_CRATE) | (kind == JOB_FOLLOW_CORRECTED) {
+    if kind == JOB_FOLLOW {
         return follows::inner::step(
             rules,
             owners,
             starts,
             symbols,
             costs,
-            kind == JOB_FOLLOW_CORRECTED,
             false,
             p,
             follow,
@@ -179,10 +178,8 @@ fn wrong(
     if kind == JOB_FIRST {
         return table_wrong(rules, tokens, first) | row_wrong(rules, empty);
     }
-    if (kind == JOB_FOLLOW_CRATE) | (kind == JOB_FOLLOW_CORRECTED) {
-        return table_wrong(rules, tokens, follow)
-            | (table_wrong(rules, tokens, first)
-                | (row_wrong(rules, empty) | row_wrong(rules, reached)));
+    if kind == JOB_FOLLOW {
+        return follows::inner::wrong(rules, tokens, follow, first, empty, reached);
     }
     if kind == JOB_PRODUCTIVE {
         return row_wrong(rules, productive);
@@ -223,7 +220,7 @@ pub fn sliced(
     };
     let kind = job.kind;
     let next = job.next.0;
-    if (JOB_COST < kind) | (owners.len() <= wide(next)) {
+    if (kind == JOB_NONE) | ((JOB_COST < kind) | (owners.len() <= wide(next))) {
         return Left {
             job: job,
             said: Sliced::Refused(17),

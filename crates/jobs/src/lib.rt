@@ -9,11 +9,11 @@ pub mod inner;
 // The kind of a job that fills FIRST and EMPTY.
 pub const JOB_FIRST: u16 = 0;
 
-// The kind of one that fills FOLLOW in mode 1.
-pub const JOB_FOLLOW_CRATE: u16 = 1;
+// No job's kind. One that was saved with it has a half-filled table by another rule, and is refused.
+pub const JOB_NONE: u16 = 1;
 
-// The kind of one that fills FOLLOW in mode 2.
-pub const JOB_FOLLOW_CORRECTED: u16 = 2;
+// The kind of one that fills FOLLOW.
+pub const JOB_FOLLOW: u16 = 2;
 
 // The kind of one that fills PRODUCTIVE.
 pub const JOB_PRODUCTIVE: u16 = 3;

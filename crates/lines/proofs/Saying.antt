@@ -7,7 +7,7 @@ use Prim.Native.Nat.{ℕ, _≤_, _<_}
 use native.Mathlib.Omega.{arith}
 use lib.ListN.{length}
 use Rattle.theory.specs.Definitions.{First, Empty, Productive, Cost}
-use Rattle.theory.specs.Follow.{Follow, corrected}
+use Rattle.theory.specs.Follow.{Follow}
 use Rattle.theory.proofs.Cost.{cost-one, cost-twelve, cost-thirteen}
 use Rattle.grammar.specs.Flat.{Flat, at, denoted, price}
 use Rattle.rows.specs.Marks.{mark}
@@ -16,7 +16,7 @@ use Rattle.rows.proofs.Tables.{view-mark, view-inside}
 use Rattle.rows.proofs.Row.{row-mark}
 use Rattle.tables.specs.Sizes.{words}
 use Rattle.firsts.specs.Lent.{marksOf, lent as firsts}
-use Rattle.follows.specs.Calls.{Full, Defined as FollowDefined}
+use Rattle.follows.specs.Calls.{Tables as FollowTables}
 use Rattle.follows.specs.Lent.{reads, lent}
 use Rattle.costs.specs.Defined.{CostDefined}
 use Rattle.costs.proofs.Summing.{entry}
@@ -57,7 +57,7 @@ module _ (g : Flat) (l : Tables) (d : Defined g l) (r : ℕ) (lr : r < g .rules)
   unfolding marksOf
   firsts-are t = let x = d .read .exact .first r t in (λ h. row-holds R T (words T) (l .first) r lr t (x .0 h), λ m. x .1 (row-held R T (words T) (l .first) r lr t m))
 
-  follows-are : (t : ℕ) → Follow (denoted g) corrected r t ↔ List·Memᴰ t (members T (mark (words T) (l .follow) r))
+  follows-are : (t : ℕ) → Follow (denoted g) r t ↔ List·Memᴰ t (members T (mark (words T) (l .follow) r))
   follows-are t = let x = d .follow .exact r t in (λ h. row-holds R T (words T) (l .follow) r lr t (x .0 h), λ m. x .1 (row-held R T (words T) (l .follow) r lr t m))
 
   amounts : (m : ℕ) → ((m ≤ 65535) × Cost (denoted g) (price g) r m) ↔ (priceOf n ≡ amount m)
@@ -92,10 +92,10 @@ module _ (g : Flat) (l : Tables) (d : Defined g l) (r : ℕ) (lr : r < g .rules)
     is-dear = all-dear;
   }
 
--- the tables that the fills leave, FOLLOW's in mode 2
-pub fills-define : (g : Flat) (empty first follow reached cost : List ℕ) → Full g 2 (lent follow (reads (firsts first empty) reached)) → CostDefined g cost → Defined g (tables empty first follow cost)
+-- the tables that the fills leave
+pub fills-define : (g : Flat) (empty first follow reached cost : List ℕ) → FollowTables g (lent follow (reads (firsts first empty) reached)) → CostDefined g cost → Defined g (tables empty first follow cost)
 fills-define g empty first follow reached cost f c = record {
-  read = f .tables .read .firsts;
-  follow = subst (λ m. FollowDefined g m follow) (let z : f .mode ≡ corrected = cc (f .means) in z) (f .tables .follow);
+  read = f .read .firsts;
+  follow = f .follow;
   cost = c;
 }

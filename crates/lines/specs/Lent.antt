@@ -11,7 +11,7 @@ use Rattle.tables.specs.Sizes.{words, tableWrong, rowWrong, numbersWrong}
 use Rattle.lines.specs.Text.{members}
 use Rattle.lines.specs.Line.{Entry, priceOf}
 
--- EMPTY, FIRST, mode 2 FOLLOW and COST
+-- EMPTY, FIRST, FOLLOW and COST
 pub record Tables : Type 0 where
   pub empty : List ℕ
   pub first : List ℕ

@@ -11,7 +11,7 @@ pub data Price : Type 0 where
   amount : ℕ → Price
   none dear : Price
 
--- a line's five fields: number, EMPTY, FIRST, mode 2 FOLLOW, cost
+-- a line's five fields: number, EMPTY, FIRST, FOLLOW, cost
 pub record Entry : Type 0 where
   pub number : ℕ
   pub empty : Bool

@@ -6,7 +6,7 @@ use mathlib.Core.Path.{_≡_}
 use Prim.Native.Nat.{ℕ, _≤_, _<_}
 use Rattle.theory.specs.Definitions.{First, Empty, Sentence, costOf, Productive, Cost}
 use Rattle.theory.specs.Entries.{costMax}
-use Rattle.theory.specs.Follow.{Follow, corrected}
+use Rattle.theory.specs.Follow.{Follow}
 use Rattle.grammar.specs.Flat.{Flat, denoted, price}
 use Rattle.firsts.specs.Calls.{Defined as FirstDefined}
 use Rattle.firsts.specs.Lent.{lent as firsts}
@@ -16,23 +16,23 @@ use Rattle.lines.specs.Text.{Rising}
 use Rattle.lines.specs.Line.{amount, none, dear, Entry}
 use Rattle.lines.specs.Lent.{Tables}
 
--- the defined tables, which the fills leave; FOLLOW is mode 2's
+-- the defined tables, which the fills leave
 pub record Defined (g : Flat) (l : Tables) : Type 0 where
   pub read : FirstDefined g (firsts (l .first) (l .empty))
-  pub follow : FollowDefined g corrected (l .follow)
+  pub follow : FollowDefined g (l .follow)
   pub cost : CostDefined g (l .cost)
 
 -- no sentence of rule r costs 65535 or less
 abbrev pub AllDear : Flat → ℕ → Type 0
 AllDear g r = (w : List ℕ) → Sentence (denoted g) r w → costMax < costOf (price g) w
 
--- the fields are rule r's number, EMPTY, FIRST, mode 2 FOLLOW and COST; `none` exactly if it has no sentence, `dear` exactly if it has one but none costs 65535 or less
+-- the fields are rule r's number, EMPTY, FIRST, FOLLOW and COST; `none` exactly if it has no sentence, `dear` exactly if it has one but none costs 65535 or less
 pub record Says (g : Flat) (r : ℕ) (e : Entry) : Type 0 where
   pub number : e .number ≡ r
   pub empty : Empty (denoted g) r ↔ (e .empty ≡ true)
   pub first : (t : ℕ) → First (denoted g) r t ↔ List·Memᴰ t (e .first)
   pub first-rises : Rising (e .first)
-  pub follow : (t : ℕ) → Follow (denoted g) corrected r t ↔ List·Memᴰ t (e .follow)
+  pub follow : (t : ℕ) → Follow (denoted g) r t ↔ List·Memᴰ t (e .follow)
   pub follow-rises : Rising (e .follow)
   pub is-amount : (n : ℕ) → ((n ≤ costMax) × Cost (denoted g) (price g) r n) ↔ (e .cost ≡ amount n)
   pub is-none : (Productive (denoted g) r → ⊥) ↔ (e .cost ≡ none)

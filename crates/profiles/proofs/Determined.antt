@@ -1,8 +1,7 @@
 -- The promise determines the verdict and every lent word: any two results that it allows are equal.
 use mathlib.Core.List.{List}
-use mathlib.Core.Path.{_≡_, refl, sym, _∙_, ap, ap₂}
+use mathlib.Core.Path.{_≡_, refl, sym, _∙_, ap}
 use Prim.Native.Nat.{ℕ}
-use Rattle.theory.specs.Follow.{corrected}
 use Rattle.theory.specs.Profile.{Verdict, passes, clashes}
 use Rattle.theory.proofs.Profile.{judged-one}
 use Rattle.grammar.specs.Flat.{Flat, denoted}
@@ -10,7 +9,7 @@ use Rattle.grammar.specs.Outcome.{Outcome, answers, refused}
 use Rattle.tables.proofs.Calls.{Both, call-one, told-apart}
 use Rattle.firsts.specs.Lent.{lent as firsts}
 use Rattle.follows.specs.Lent.{Lent, lent, reads}
-use Rattle.follows.proofs.Determined.{Same, defined-one, finished-one}
+use Rattle.follows.proofs.Determined.{Same, tables-one}
 use Rattle.profiles.specs.declared.Verdict.{Verdict as Answer}
 use Rattle.profiles.specs.declared.Verdict.the-variants.{Passes, Clashes, Refused}
 use Rattle.profiles.specs.Calls.{verdictIs, profileDue, Judges, Profile}
@@ -18,7 +17,7 @@ use Rattle.profiles.specs.Calls.{verdictIs, profileDue, Judges, Profile}
 judges-one : (g : Flat) (s t : Outcome Verdict) (a b : Lent) → Judges g s a → Judges g t b → Both s t a b
 judges-one g s t a b x y = record {
   said = x .answer ∙ ap answers (judged-one (denoted g) (x .verdict) (y .verdict) (x .judged) (y .judged)) ∙ sym (y .answer);
-  left = ap₂ lent (defined-one g corrected (a .follow) (b .follow) (x .tables .follow) (y .tables .follow)) (finished-one g (a .read) (b .read) (x .tables .read) (y .tables .read));
+  left = tables-one g a b (x .tables) (y .tables);
 }
 
 verdict-one : (a b : Answer) → verdictIs a ≡ verdictIs b → a ≡ b

@@ -3,7 +3,6 @@ use mathlib.Core.List.{List}
 use mathlib.Core.Path.{_≡_}
 use Prim.Native.Nat.{ℕ, _<_}
 use lib.ListN.{length}
-use Rattle.theory.specs.Follow.{corrected}
 use Rattle.theory.specs.Profile.{Verdict, passes, clashes, Judged}
 use Rattle.grammar.specs.Flat.{Flat, denoted}
 use Rattle.grammar.specs.Outcome.{Outcome, answers, refused, unless}
@@ -28,12 +27,12 @@ verdictIs (Refused n) = refused n
 abbrev pub profileDue : Flat → Lent → Outcome (Unit {0})
 profileDue g l = unlessDue g (unless (lentWrong (g .rules) (length (g .costs)) l) 7 (answers tt))
 
--- the call answers the grammar's verdict, and leaves mode 2 FOLLOW, FIRST, EMPTY and the reached row, for any earlier contents
+-- the call answers the grammar's verdict, and leaves FOLLOW, FIRST, EMPTY and the reached row, for any earlier contents
 pub record Judges (g : Flat) (said : Outcome Verdict) (to : Lent) : Type 0 where
   pub verdict : Verdict
   pub answer : said ≡ answers verdict
   pub judged : Judged (denoted g) verdict
-  pub tables : Tables g corrected to
+  pub tables : Tables g to
 
 -- the promise of `profile`
 abbrev pub Profile : Flat → (follow first empty reached : List ℕ) → Answer → (follow′ first′ empty′ reached′ : List ℕ) → Type 0
@@ -44,7 +43,7 @@ Profile g follow first empty reached r follow′ first′ empty′ reached′ =
 pub record Judgeable (g : Flat) (read : Firsts) (follow : List ℕ) : Type 0 where
   pub well : WellFormed g
   pub first-is : FirstDefined g read
-  pub follow-is : Defined g corrected follow
+  pub follow-is : Defined g follow
 
 -- and to name the clash, whose rule and lower production are the least
 pub record Clashing (g : Flat) (read : Firsts) (follow : List ℕ) (rule lower : ℕ) : Type 0 where

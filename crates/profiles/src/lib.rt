@@ -26,7 +26,7 @@ pub enum Verdict {
     Refused(u16),
 }
 
-// Whether a reader can choose each production by the next token. Leaves FOLLOW of mode 2, FIRST, EMPTY and the
+// Whether a reader can choose each production by the next token. Leaves FOLLOW, FIRST, EMPTY and the
 // reached row in the lent tables. Refusals 1 to 7.
 pub fn profile(
     rules: u16,
@@ -45,9 +45,8 @@ pub fn profile(
     let Checked::Well = c else {
         return Verdict::Refused(number(c));
     };
-    let wrong = follows::inner::wrong(wide(rules), costs.len(), 2, follow, first, empty, reached);
-    if 0 < wrong {
-        return Verdict::Refused(wrong);
+    if follows::inner::wrong(wide(rules), costs.len(), follow, first, empty, reached) {
+        return Verdict::Refused(7);
     }
     follows::inner::fill(
         rules,
@@ -55,7 +54,6 @@ pub fn profile(
         starts,
         symbols,
         costs,
-        true,
         follow,
         first,
         empty,

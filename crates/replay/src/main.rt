@@ -253,7 +253,7 @@ fn asked_of(rule: u16, asked: &[u16]) -> u16 {
     0
 }
 
-// A rule's line: its number, EMPTY, FIRST, FOLLOW, paths, and where they are asked for its cost and its sentence.
+// A rule's line: its number, EMPTY, FIRST, paths, and where they are asked for its cost and its sentence.
 fn say_rule(
     rules: u16,
     owners: &[u16],
@@ -264,7 +264,6 @@ fn say_rule(
     asked: u16,
     empty: &[u32],
     first: &[u32],
-    follow: &[u32],
     cost: &mut [u32],
     lengths: &mut [u32],
     out: &mut [u16],
@@ -274,8 +273,6 @@ fn say_rule(
     say_empty(rules, owners, starts, symbols, costs, empty, rule);
     say(b",");
     say_marks(rules, owners, starts, symbols, costs, first, rule);
-    say(b",");
-    say_marks(rules, owners, starts, symbols, costs, follow, rule);
     say(b",");
     say_paths(rules, owners, starts, symbols, costs, rule);
     say(b",");
@@ -305,7 +302,6 @@ fn say_rules(
     asked: &[u16],
     empty: &[u32],
     first: &[u32],
-    follow: &[u32],
     cost: &mut [u32],
     lengths: &mut [u32],
 ) {
@@ -322,7 +318,6 @@ fn say_rules(
             asked_of(rule, asked),
             empty,
             first,
-            follow,
             cost,
             lengths,
             &mut out,
@@ -349,7 +344,7 @@ fn say_prods(rules: u16, owners: &[u16], starts: &[u16], symbols: &[u16], costs:
     }
 }
 
-// Fills the tables, FOLLOW in the crate's mode, and prints a line for each rule.
+// Fills FIRST and EMPTY, and prints a line for each rule.
 fn fill_and_say(
     rules: u16,
     owners: &[u16],
@@ -359,23 +354,10 @@ fn fill_and_say(
     asked: &[u16],
     empty: &mut [u32],
     first: &mut [u32],
-    follow: &mut [u32],
-    reached: &mut [u32],
     cost: &mut [u32],
     lengths: &mut [u32],
 ) {
-    let f = follows::fill(
-        rules,
-        owners,
-        starts,
-        symbols,
-        costs,
-        1,
-        follow,
-        first,
-        empty,
-        reached,
-    );
+    let f = firsts::fill(rules, owners, starts, symbols, costs, first, empty);
     say_filled(f);
     say_rules(
         rules,
@@ -386,7 +368,6 @@ fn fill_and_say(
         asked,
         empty,
         first,
-        follow,
         cost,
         lengths,
     );
@@ -409,8 +390,6 @@ fn replay(owners: &[u16], starts: &[u16], symbols: &[u16], costs: &[u8], asked: 
     let k = table_words(n, costs.len());
     let mut empty = [0; 16];
     let mut first = [0; 8192];
-    let mut follow = [0; 8192];
-    let mut reached = [0; 16];
     let mut cost = [0; 512];
     let mut lengths = [0; 512];
     let r = narrow(n);
@@ -424,8 +403,6 @@ fn replay(owners: &[u16], starts: &[u16], symbols: &[u16], costs: &[u8], asked: 
         asked,
         &mut empty[..w],
         &mut first[..k],
-        &mut follow[..k],
-        &mut reached[..w],
         &mut cost[..n],
         &mut lengths[..n],
     );
@@ -477,7 +454,7 @@ fn next() {
 }
 
 fn main() {
-    say(b"rule,empty,first,follow,paths,cost,sentence\n");
+    say(b"rule,empty,first,paths,cost,sentence\n");
     let grammars = number();
     let mut i: u16 = 0;
     while i < grammars {

@@ -14,7 +14,7 @@ use Rattle.tables.specs.Sizes.{words}
 use Rattle.tables.proofs.AnyOrder.{goes}
 use Rattle.tables.proofs.Asking.{table-right, row-right, numbers-right, words-most}
 use Rattle.firsts.specs.Lent.{lent as firsts}
-use Rattle.follows.specs.Calls.{Full, fillDue}
+use Rattle.follows.specs.Calls.{Tables as FollowTables, fillDue}
 use Rattle.follows.specs.Lent.{Lent, reads, lent}
 use Rattle.costs.specs.Calls.{Fill as FillCost}
 use Rattle.costs.specs.Defined.{CostFillable, CostDefined}
@@ -65,7 +65,7 @@ module _ (g : Flat) where
   pub reached-long : WellFormed g → (n w : ℕ) → n ≡ g .rules → w ≡ words n → length {A = ℕ} (take w (replicate 16 0)) ≡ words (g .rules)
   reached-long x n w en ew = front-long w _ (replicate 16 0) (ew ∙ ap words en) (omega (arith, x .sizes .rules-high, zeros 16))
 
-  pub sets-full : (follow first empty reached : List ℕ) → SetsFillable g follow first empty → length reached ≡ words (g .rules) → {s : Outcome (Unit {0})} {l : Lent} → Call (fillDue g 2 (lent follow (reads (firsts first empty) reached))) (Leaves (Full g 2)) (lent follow (reads (firsts first empty) reached)) s l
+  pub sets-full : (follow first empty reached : List ℕ) → SetsFillable g follow first empty → length reached ≡ words (g .rules) → {s : Outcome (Unit {0})} {l : Lent} → Call (fillDue g 2 (lent follow (reads (firsts first empty) reached))) (Leaves (FollowTables g)) (lent follow (reads (firsts first empty) reached)) s l
       → SetsFull g (l .follow) (l .read .firsts .first) (l .read .firsts .empty)
   sets-full follow first empty reached f long {l = l} x = record { reached = l .read .reached; full = x .does (sets-due follow first empty reached f long) .left }
 

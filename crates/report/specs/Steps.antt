@@ -10,7 +10,7 @@ use Rattle.tables.specs.Sizes.{words}
 use Rattle.tables.specs.declared.Written.{Written}
 use Rattle.tables.specs.declared.Written.the-variants.{Bytes, Refused}
 use Rattle.firsts.specs.Lent.{lent as firsts}
-use Rattle.follows.specs.Calls.{Full}
+use Rattle.follows.specs.Calls.{Tables as FollowTables}
 use Rattle.follows.specs.Lent.{reads, lent}
 use Rattle.lines.specs.Line.{Entry, lineOf}
 use Rattle.lines.specs.Lent.{Tables}
@@ -47,10 +47,10 @@ pub record SetsFillable (g : Flat) (follow first empty : List ℕ) : Type 0 wher
   pub first-long : length first ≡ g .rules * words (length (g .costs))
   pub empty-long : length empty ≡ words (g .rules)
 
--- mode 2 FOLLOW, FIRST and EMPTY were left, beside a reached row
+-- FOLLOW, FIRST and EMPTY were left, beside a reached row
 pub record SetsFull (g : Flat) (follow first empty : List ℕ) : Type 0 where
   pub reached : List ℕ
-  pub full : Full g 2 (lent follow (reads (firsts first empty) reached))
+  pub full : FollowTables g (lent follow (reads (firsts first empty) reached))
 
 -- a well-formed grammar and all its tables of their exact lengths
 pub record Fillable (g : Flat) (l : Tables) : Type 0 where

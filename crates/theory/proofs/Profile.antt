@@ -1,5 +1,5 @@
 -- The profile: the tests on finished tables are the definitions, the first of each in turn is the least clash, and there is one verdict.
-use mathlib.Core.Bool.{Bool, true, false, _&&_, _||_, cond, true≢false}
+use mathlib.Core.Bool.{Bool, true, false, _&&_, cond, true≢false}
 use mathlib.Core.List.{[], _∷_, List·Memᴰ, List·Memᴰ·head, List·Memᴰ·tail, List·Memᴰ·cases-cons, List·Memᴰ·not-nil, Memᴰ·append-right}
 use mathlib.Core.Logic.{inl, inr, _↔_}
 use mathlib.Core.Path.{_≡_, refl, sym, _∙_, ap, subst}
@@ -12,28 +12,22 @@ use borrow.Author.Tests.{eqb-true, eq-eqb, ne-eqb, ltb-true, lt-ltb, le-ltb}
 use Rattle.theory.specs.Below.{some, FirstBelow}
 use Rattle.theory.specs.Clashes.{startsOf, rowOf, sharesOf, pairOf, lowOf, ruleOf, leastOf, verdictBy}
 use Rattle.theory.specs.Grammar.{tok, rul, Form, Grammar, eof, Derives}
-use Rattle.theory.specs.Follow.{corrected, Follow}
+use Rattle.theory.specs.Follow.{Follow}
 use Rattle.theory.specs.Profile.{Starts, own, after, Pair, Clash, shared, both, Before, LeastClash, Verdict, passes, clashes, Judged, passing, clashing}
 use Rattle.theory.specs.Tables.{Proper, FirstExact, FollowExact}
-use Rattle.theory.specs.Visits.{Table, Marks, nullable, firstOf, aheadOf}
+use Rattle.theory.specs.Visits.{Table, Marks, nullable, firstOf}
 use Rattle.theory.proofs.Below.{some-at, first-at, first-none, scan-true}
 use Rattle.theory.proofs.Bools.{and-split, and-join, or-split, or-left, or-right, eqb-same}
 use Rattle.theory.proofs.Follow.{vanishes-true, vanishes-whole, ahead-true, ahead-whole}
 use Rattle.theory.proofs.Standing.{vanishes-yields, yields-vanishes, ahead-yields, yields-ahead, follow-stands}
 use Rattle.theory.proofs.Yields.{yields-token, derives→yields, yields→derives}
 
--- the walk from the left is that past a rule, in the corrected mode
-first-ahead : (m : Marks) (α : Form) (t : ℕ) → firstOf m α t ≡ aheadOf corrected m α t
-first-ahead m [] t = refl
-first-ahead m (tok s ∷ α) t = refl
-first-ahead m (rul r ∷ α) t = ap (λ z. m .first r t || (m .empty r && z)) (first-ahead m α t)
-
 -- what a form may start with, and whether it can vanish, by the tables
 module _ (g : Grammar) (m : Marks) (h : FirstExact g m) where
   pub form-starts : (α : Form) (t : ℕ) → ((β : Form) × Derives g α (tok t ∷ β)) ↔ (firstOf m α t ≡ true)
   form-starts α t = (
-    (λ x. first-ahead m α t ∙ ahead-whole g m h corrected (yields-ahead (derives→yields (x .1)) refl)),
-    λ e. let y = ahead-yields (ahead-true g m h corrected α t (sym (first-ahead m α t) ∙ e)) in (y .0, yields→derives (y .1)),
+    (λ x. ahead-whole g m h (yields-ahead (derives→yields (x .1)) refl)),
+    λ e. let y = ahead-yields (ahead-true g m h α t e) in (y .0, yields→derives (y .1)),
   )
 
   pub form-vanishes : (α : Form) → Derives g α [] ↔ (nullable (m .empty) α ≡ true)
@@ -42,7 +36,7 @@ module _ (g : Grammar) (m : Marks) (h : FirstExact g m) where
     λ e. yields→derives (vanishes-yields (vanishes-true g m h α e)),
   )
 
-  module _ (f : Table) (x : FollowExact g corrected f) where
+  module _ (f : Table) (x : FollowExact g f) where
     pub starts-told : (p t : ℕ) → Starts g p t ↔ (startsOf g m f p t ≡ true)
     starts-told p t = (to, from)
       where
@@ -64,7 +58,7 @@ module _ (g : Grammar) (ok : Proper g) where
     | inr j ↦ elim (List·Memᴰ·cases-cons j) [ inl e ↦ cc | inr i ↦ absurd (List·Memᴰ·not-nil i) ]
   ]
 
-  pub follow-below : {A t : ℕ} → Follow g corrected A t → t < g .tokens
+  pub follow-below : {A t : ℕ} → Follow g A t → t < g .tokens
   follow-below {A} {t} k =
       let s = follow-stands k in
       elim (yields-token ok (derives→yields (s .derived)) t (Memᴰ·append-right (s .before) (List·Memᴰ·tail (List·Memᴰ·head refl)))) [
@@ -111,7 +105,7 @@ module _ (g : Grammar) (m : Marks) (f : Table) (p t : ℕ) where
   row-past l = row-vanish (omega arith) ∙ rw (ne-eqb t (g .tokens) (λ e. omega arith))
 
 -- two productions clash exactly where their rows share a mark
-module _ (g : Grammar) (ok : Proper g) (m : Marks) (h : FirstExact g m) (f : Table) (x : FollowExact g corrected f) where
+module _ (g : Grammar) (ok : Proper g) (m : Marks) (h : FirstExact g m) (f : Table) (x : FollowExact g f) where
   row-starts : (p t : ℕ) → p < g .prods → Starts g p t → rowOf g m f p t ≡ true
   row-starts p t lp s = row-token g m f p t (starts-below g ok p lp t s) ∙ starts-told g m h f x p t .0 s
 
@@ -163,7 +157,7 @@ pub record Found (g : Grammar) (m : Marks) (f : Table) (r p q t : ℕ) : Type 0 
   pub high : FirstBelow (pairOf g m f p) (g .prods) true q
   pub token : FirstBelow (sharesOf g m f p q) (suc (g .tokens)) true t
 
-module _ (g : Grammar) (ok : Proper g) (m : Marks) (h : FirstExact g m) (f : Table) (x : FollowExact g corrected f) where
+module _ (g : Grammar) (ok : Proper g) (m : Marks) (h : FirstExact g m) (f : Table) (x : FollowExact g f) where
   -- a clash passes each test
   passes-share : {r p q t : ℕ} → Clash g r p q t → sharesOf g m f p q t ≡ true
   passes-share {r} {p} {q} {t} c = clash-told g ok m h f x r p q t .0 c .1
@@ -222,7 +216,7 @@ least-of : (f : ℕ → Bool) (n : ℕ) → some n f ≡ true → FirstBelow f n
 least-of f n e = scan-true f n (leastOf f n) e (least-first f n)
 
 -- there is a verdict, and the tests give it
-pub verdict-judged : (g : Grammar) → Proper g → (m : Marks) → FirstExact g m → (f : Table) → FollowExact g corrected f → Judged g (verdictBy g m f)
+pub verdict-judged : (g : Grammar) → Proper g → (m : Marks) → FirstExact g m → (f : Table) → FollowExact g f → Judged g (verdictBy g m f)
 verdict-judged g ok m h f x = go (ltb (leastOf (ruleOf g m f) (g .rules)) (g .rules)) (least-first (ruleOf g m f) (g .rules))
   where
     go : (a : Bool) → FirstBelow (ruleOf g m f) (g .rules) a (leastOf (ruleOf g m f) (g .rules)) → Judged g

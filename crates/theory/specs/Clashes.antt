@@ -1,4 +1,4 @@
--- The profile by tables: what the marks of FIRST, EMPTY and mode 2 FOLLOW say of a production, and of two.
+-- The profile by tables: what the marks of FIRST, EMPTY and FOLLOW say of a production, and of two.
 use mathlib.Core.Bool.{Bool, true, _&&_, _||_, cond}
 use mathlib.Core.Logic.{_⊎_}
 use mathlib.Core.Path.{_≡_}

@@ -4,12 +4,12 @@ use mathlib.Core.Logic.{_⊎_}
 use mathlib.Core.Path.{_≡_}
 use Prim.Native.Nat.{ℕ, _<_}
 use Rattle.theory.specs.Grammar.{tok, Form, Grammar, Derives}
-use Rattle.theory.specs.Follow.{corrected, Follow}
+use Rattle.theory.specs.Follow.{Follow}
 
--- production p may start with t: its symbols derive a form starting with t; or they can vanish, and mode 2 FOLLOW of its owner holds t
+-- production p may start with t: its symbols derive a form starting with t; or they can vanish, and FOLLOW of its owner holds t
 pub data Starts (g : Grammar) (p t : ℕ) : Type 0 where
   own : (β : Form) → Derives g (g .body p) (tok t ∷ β) → Starts g p t
-  after : Derives g (g .body p) [] → Follow g corrected (g .owner p) t → Starts g p t
+  after : Derives g (g .body p) [] → Follow g (g .owner p) t → Starts g p t
 
 -- two productions of rule r, p the lower
 pub record Pair (g : Grammar) (r p q : ℕ) : Type 0 where

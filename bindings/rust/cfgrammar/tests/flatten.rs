@@ -4,7 +4,7 @@ use std::collections::HashMap;
 use std::fs;
 use std::path::{Path, PathBuf};
 
-use boltmarrow::{Grammar, Mode, Refusal, Version};
+use boltmarrow::{Grammar, Refusal, Version};
 use boltmarrow_cfgrammar::{flatten, prod, prod_of, rule, rule_of, token, token_of};
 use cfgrammar::yacc::{YaccGrammar, YaccKind, YaccOriginalActionKind};
 
@@ -15,6 +15,11 @@ const KIND: YaccKind = YaccKind::Original(YaccOriginalActionKind::NoAction);
 
 /// Examples on which `rule_min_costs` panics or never returns (docs/DIFFERENCES.md).
 const NO_COSTS: [&str; 4] = ["g3", "g4", "g5-dear", "g5-either"];
+
+/// Examples on which the crate's FOLLOW is another one: how many marks it lacks, since it looks one symbol ahead, and how
+/// many it has that only a dead rule puts there (docs/DIFFERENCES.md). On all others it is the same.
+const OTHER_FOLLOW: [(&str, [usize; 2]); 5] =
+    [("climate", [14, 0]), ("comma", [4, 0]), ("dead", [0, 1]), ("g2", [1, 0]), ("load", [51, 0])];
 
 fn yacc(text: &str) -> YaccGrammar<u16> {
     YaccGrammar::new_with_storaget(KIND, text).expect("a text of the stand-in's form")
@@ -38,7 +43,7 @@ fn the_tools_change_keeps_the_field_comma() -> Result<(), Refusal> {
     let prods = "prod Row rule:Num rule:Unit token:,\nprod Num token:digits\nprod Unit token:unit\nprod Unit";
     let grm = yacc(&[names, prods].concat());
     let flat = flatten(&grm, |_| 1)?;
-    let follows = flat.follows(Mode::Corrected);
+    let follows = flat.follows();
     let (num, comma) = (grm.rule_idx("Num").unwrap(), grm.token_idx(",").unwrap());
     assert!(!grm.follows().is_set(num, comma));
     assert!(follows.is_set(rule(num), token(comma))?);
@@ -81,7 +86,7 @@ fn a_flattened_grammar_is_stored_and_read() -> Result<(), Refusal> {
     let stored = Grammar::from_blocks(&flat.to_blocks(Version::Two)?)?;
     assert_eq!(stored, flat);
     let (num, comma) = (grm.rule_idx("Num").unwrap(), grm.token_idx(",").unwrap());
-    assert!(stored.follows(Mode::Corrected).is_set(rule(num), token(comma))?);
+    assert!(stored.follows().is_set(rule(num), token(comma))?);
     Ok(())
 }
 
@@ -187,17 +192,29 @@ fn numbers_go_back(name: &str, flat: &Grammar, grm: &YaccGrammar<u16>) {
     assert_eq!(prod_of(grm, flat.prods_len()), Err(Refusal::ProductionNumber), "{name}");
 }
 
-fn marks_are_equal(name: &str, flat: &Grammar, grm: &YaccGrammar<u16>) {
-    let (firsts, follows) = (flat.firsts(), flat.follows(Mode::Crate));
-    let (own_firsts, own_follows) = (grm.firsts(), grm.follows());
+fn firsts_are_equal(name: &str, flat: &Grammar, grm: &YaccGrammar<u16>) {
+    let (firsts, own) = (flat.firsts(), grm.firsts());
     for ridx in grm.iter_rules() {
-        assert_eq!(firsts.is_epsilon_set(rule(ridx)), Ok(own_firsts.is_epsilon_set(ridx)), "{name}");
+        assert_eq!(firsts.is_epsilon_set(rule(ridx)), Ok(own.is_epsilon_set(ridx)), "{name}");
         for tidx in grm.iter_tidxs() {
             let (r, t) = (rule(ridx), token(tidx));
-            assert_eq!(firsts.is_set(r, t), Ok(own_firsts.is_set(ridx, tidx)), "{name}: FIRST {r:?} {t:?}");
-            assert_eq!(follows.is_set(r, t), Ok(own_follows.is_set(ridx, tidx)), "{name}: FOLLOW {r:?} {t:?}");
+            assert_eq!(firsts.is_set(r, t), Ok(own.is_set(ridx, tidx)), "{name}: {r:?} {t:?}");
         }
     }
+}
+
+fn follows_differ_as_said(name: &str, flat: &Grammar, grm: &YaccGrammar<u16>) {
+    let (follows, own) = (flat.follows(), grm.follows());
+    let [mut lacks, mut has_more] = [0; 2];
+    for ridx in grm.iter_rules() {
+        for tidx in grm.iter_tidxs() {
+            let (ours, theirs) = (follows.is_set(rule(ridx), token(tidx)).unwrap(), own.is_set(ridx, tidx));
+            lacks += usize::from(ours && !theirs);
+            has_more += usize::from(theirs && !ours);
+        }
+    }
+    let said = OTHER_FOLLOW.into_iter().find(|(other, _)| *other == name);
+    assert_eq!([lacks, has_more], said.map_or([0; 2], |(_, counts)| counts), "{name}");
 }
 
 fn paths_are_equal(name: &str, flat: &Grammar, grm: &YaccGrammar<u16>) {
@@ -253,7 +270,8 @@ fn all_cheapest_rows_in_the_grammars_own_names() -> Result<(), Refusal> {
 #[test]
 fn examples_have_the_crates_own_answers() {
     let examples = examples();
-    assert!(examples.len() >= 12 && NO_COSTS.iter().all(|name| examples.contains_key(*name)));
+    let named = OTHER_FOLLOW.iter().map(|(name, _)| name).chain(&NO_COSTS);
+    assert!(examples.len() >= 12 && named.into_iter().all(|name| examples.contains_key(*name)));
     for (name, example) in examples {
         let (renumbered, grm) = as_the_crate(example);
         let flat = flatten(&grm, |tidx| renumbered.token_cost(token(tidx)).unwrap()).unwrap();
@@ -261,7 +279,8 @@ fn examples_have_the_crates_own_answers() {
         let file = flat.to_blocks(Version::One).unwrap();
         assert_eq!(Grammar::from_blocks(&file), Ok(renumbered), "{name}");
         numbers_go_back(&name, &flat, &grm);
-        marks_are_equal(&name, &flat, &grm);
+        firsts_are_equal(&name, &flat, &grm);
+        follows_differ_as_said(&name, &flat, &grm);
         paths_are_equal(&name, &flat, &grm);
         if !NO_COSTS.contains(&&name[..]) {
             costs_are_equal(&name, &flat, &grm);

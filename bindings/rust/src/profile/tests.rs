@@ -51,7 +51,7 @@ fn first_clash(grm: &Grammar, follows: &Follows, rule: RIdx) -> Option<Clash> {
 
 /// The verdict that is due and given.
 fn held(grm: &Grammar) -> Verdict {
-    let filled = grm.follows(Mode::Corrected);
+    let filled = grm.follows();
     let due = grm.iter_rules().find_map(|rule| first_clash(grm, &filled, rule));
     let (verdict, follows) = grm.profile_with_follows();
     assert_eq!(verdict, due.map_or(Verdict::Passes, Verdict::Clashes));

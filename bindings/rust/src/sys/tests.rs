@@ -24,9 +24,9 @@ fn seven_for_mark_tables() {
         assert_eq!(refused(first_fill(G1, &mut wrong, &mut row)), 7);
         assert_eq!(refused(follow_clear(G1, &mut wrong)), 7);
         let mut reached = [9; 1];
-        assert_eq!(refused(follow_visit(G1, 1, 0, &mut right, &wrong, &row, &reached)), 7);
-        assert_eq!(refused(follow_visit(G1, 1, 0, &mut wrong, &right, &row, &reached)), 7);
-        assert_eq!(refused(follow_fill(G1, 1, &mut right, &mut wrong, &mut row, &mut reached)), 7);
+        assert_eq!(refused(follow_visit(G1, FOLLOW_MODE, 0, &mut right, &wrong, &row, &reached)), 7);
+        assert_eq!(refused(follow_visit(G1, FOLLOW_MODE, 0, &mut wrong, &right, &row, &reached)), 7);
+        assert_eq!(refused(follow_fill(G1, FOLLOW_MODE, &mut right, &mut wrong, &mut row, &mut reached)), 7);
         assert_eq!((wrong, right, row, reached), (vec![9; len], [9; 4], [9; 1], [9; 1]));
     }
 }
@@ -84,7 +84,7 @@ fn short_room_for_a_number_of_a_list() {
     }
 }
 
-/// The reached row is lent in both modes; 7 comes before 8 and 11.
+/// 7 comes before 8 and 11.
 #[test]
 fn seven_for_the_reached_row() {
     for (len, mode) in [0, 2, 3].into_iter().flat_map(|len| [0, 1, 2, 3].map(|mode| (len, mode))) {
@@ -137,12 +137,12 @@ fn twenty_five_and_twenty_six_come_before_twenty_four() {
 
 #[test]
 fn eight_for_other_modes() {
-    for mode in [0, 3, 65535] {
+    for mode in [0, 1, 3, 258, 65535] {
         let (mut follow, mut first, mut empty, mut reached) = ([9; 4], [9; 4], [9; 1], [9; 1]);
         for prod in [0, 6] {
-            assert_eq!(refused(follow_visit(G1, mode, prod, &mut follow, &first, &empty, &reached)), 8);
+            assert_eq!(refused(follow_visit(G1, mode, prod, &mut follow, &first, &empty, &reached)), 8, "mode {mode}");
         }
-        assert_eq!(refused(follow_fill(G1, mode, &mut follow, &mut first, &mut empty, &mut reached)), 8);
+        assert_eq!(refused(follow_fill(G1, mode, &mut follow, &mut first, &mut empty, &mut reached)), 8, "mode {mode}");
         assert_eq!((follow, first, empty, reached), ([9; 4], [9; 4], [9; 1], [9; 1]));
     }
 }
@@ -197,38 +197,33 @@ const DEAD: Flat = Flat {
     costs: &[1, 1, 1],
 };
 
-/// What counts in mode 2 is the row that is lent, whatever it holds; mode 1 reads none.
+/// What counts is the row that is lent, whatever it holds.
 #[test]
 fn the_lent_row_tells_which_productions_count() {
-    for (mode, prod, row, changed) in [
-        (2, 3, 0b0111, false),
-        (2, 3, 0b1000, true),
-        (2, 3, 0b1111, true),
-        (2, 3, 0xFFFF_FFF0, false),
-        (2, 3, 0, false),
-        (2, 0, 0b0001, true),
-        (2, 0, 0b1110, false),
-        (2, 0, 0, false),
-        (1, 3, 0, true),
-        (1, 3, 0b0111, true),
-        (1, 0, 0, true),
+    for (prod, row, changed) in [
+        (3, 0b0111, false),
+        (3, 0b1000, true),
+        (3, 0b1111, true),
+        (3, 0xFFFF_FFF0, false),
+        (3, 0, false),
+        (0, 0b0001, true),
+        (0, 0b1110, false),
+        (0, 0, false),
     ] {
         let mut follow = [0b100, 0, 0, 0];
-        let visited = follow_visit(DEAD, mode, prod, &mut follow, &[1; 4], &[0], &[row]).yes();
-        assert_eq!(visited, Ok(changed), "mode {mode}, production {prod}, row {row:b}");
+        let visited = follow_visit(DEAD, FOLLOW_MODE, prod, &mut follow, &[1; 4], &[0], &[row]).yes();
+        assert_eq!(visited, Ok(changed), "production {prod}, row {row:b}");
         assert_eq!(follow != [0b100, 0, 0, 0], changed);
     }
 }
 
-/// The fill fills the row in both modes, whatever it held.
+/// The fill fills the row, whatever it held.
 #[test]
 fn follows_fill_leaves_the_reached_row() {
-    for (mode, z) in [(1, 0b010), (2, 0)] {
-        for row in [0, 0b1000, u32::MAX] {
-            let (mut follow, mut first, mut empty, mut reached) = ([9; 4], [9; 4], [9; 1], [row]);
-            follow_fill(DEAD, mode, &mut follow, &mut first, &mut empty, &mut reached).number().unwrap();
-            assert_eq!((follow, reached), ([0b100, 0b100, 0b100 | z, 0], [0b0111]), "mode {mode}, row {row:b}");
-        }
+    for row in [0, 0b1000, u32::MAX] {
+        let (mut follow, mut first, mut empty, mut reached) = ([9; 4], [9; 4], [9; 1], [row]);
+        follow_fill(DEAD, FOLLOW_MODE, &mut follow, &mut first, &mut empty, &mut reached).number().unwrap();
+        assert_eq!((follow, reached), ([0b100, 0b100, 0b100, 0], [0b0111]), "row {row:b}");
     }
 }
 
@@ -309,11 +304,13 @@ type Words = [Vec<u32>; 6];
 /// The lengths that G1 has them in.
 const LENGTHS: [usize; 6] = [4, 1, 4, 1, 4, 1];
 
-/// Those that a job of the kind looks at.
-const LOOKED_AT: [&[usize]; 5] = [&[0, 1], &[0, 1, 2, 5], &[0, 1, 2, 5], &[3], &[4]];
-
-/// Those of them that it writes.
-const WRITTEN: [&[usize]; 5] = [&[0, 1], &[2], &[2], &[3], &[4]];
+/// A job's kind, those of them that it looks at, and of these those that it writes.
+const KINDS: [(u16, &[usize], &[usize]); 4] = [
+    (JOB_FIRST, &[0, 1], &[0, 1]),
+    (JOB_FOLLOW, &[0, 1, 2, 5], &[2]),
+    (JOB_PRODUCTIVE, &[3], &[3]),
+    (JOB_COST, &[4], &[4]),
+];
 
 const PRODS: u16 = 6;
 
@@ -338,8 +335,8 @@ fn holds_refused(refusal: u32, job: Job, g: Flat, tables: &Words) {
 /// Kinds above 4 and next productions that are not there, in a job that is done too; 17 comes before 7.
 #[test]
 fn seventeen_for_damaged_jobs() {
-    let kinds = [5, 6, 256, 260, 65535].into_iter().flat_map(|kind| [0, 5, 6].map(|next| (kind, next)));
-    let nexts = (0..5).flat_map(|kind| [PRODS, PRODS + 1, 256, 65535].map(|next| (kind, next)));
+    let kinds = [5, 6, 256, 258, 260, 65535].into_iter().flat_map(|kind| [0, 5, 6].map(|next| (kind, next)));
+    let nexts = KINDS.into_iter().flat_map(|(kind, ..)| [PRODS, PRODS + 1, 256, 65535].map(|next| (kind, next)));
     for (kind, next) in kinds.chain(nexts) {
         for done in [0, 1] {
             let job = Job { kind, next, changed: 1, done };
@@ -349,11 +346,25 @@ fn seventeen_for_damaged_jobs() {
     }
 }
 
+/// Wherever the job stands, beside tables that one of kind 2 would go on with.
+#[test]
+fn seventeen_for_kind_1() {
+    let mut tables = words();
+    let [first, empty, follow, _, _, reached] = &mut tables;
+    follow_fill(G1, FOLLOW_MODE, follow, first, empty, reached).number().unwrap();
+    follow_clear(G1, follow).number().unwrap();
+    for (next, changed, done) in (0..PRODS).flat_map(|next| [(0, 0), (1, 0), (0, 1)].map(|(c, d)| (next, c, d))) {
+        let job = Job { kind: 1, next, changed, done };
+        holds_refused(17, job, G1, &tables);
+        holds_refused(17, job, G1, &Words::default());
+    }
+}
+
 /// A production holds rule 0.
 #[test]
 fn six_comes_before_seventeen() {
     let wrong = Flat { symbols: &[32768, 0, 32771, 2, 1, 0, 32769], ..G1 };
-    for job in [Job::new(0), Job { next: PRODS, ..Job::new(4) }, Job::new(5), Job::new(65535)] {
+    for job in [Job::new(0), Job { next: PRODS, ..Job::new(4) }, Job::new(1), Job::new(5), Job::new(65535)] {
         holds_refused(6, job, wrong, &words());
         holds_refused(6, job, wrong, &Words::default());
     }
@@ -362,7 +373,7 @@ fn six_comes_before_seventeen() {
 /// Each table of the kind in a wrong length, for a job that is done too.
 #[test]
 fn seven_for_the_tables_of_a_jobs_kind() {
-    for (kind, at) in (0..5).flat_map(|kind| LOOKED_AT[usize::from(kind)].iter().map(move |at| (kind, *at))) {
+    for (kind, at) in KINDS.into_iter().flat_map(|(kind, looked_at, _)| looked_at.iter().map(move |at| (kind, *at))) {
         for len in [0, LENGTHS[at] - 1, LENGTHS[at] + 1, 9] {
             let mut wrong = words();
             wrong[at] = vec![9; len];
@@ -375,18 +386,17 @@ fn seven_for_the_tables_of_a_jobs_kind() {
 /// Other kinds' tables may be of any length; a slice changes nothing but what its kind writes.
 #[test]
 fn a_slice_looks_at_its_kinds_tables_only() {
-    for kind in 0..5 {
+    for (kind, looked_at, written) in KINDS {
         for len in [0, 1, 2, 3, 5, 9] {
-            let at = usize::from(kind);
             let mut before = words();
-            for other in (0..6).filter(|other| !LOOKED_AT[at].contains(other)) {
+            for other in (0..6).filter(|other| !looked_at.contains(other)) {
                 before[other] = vec![9; len];
             }
             let (mut job, mut after) = (Job::new(kind), before.clone());
             let made = sliced(&mut job, G1, u32::MAX, &mut after).unwrap();
             assert!(made >= PRODS.into() && made % u32::from(PRODS) == 0);
             assert_eq!(job, Job { done: 1, ..Job::new(kind) });
-            for table in (0..6).filter(|table| !WRITTEN[at].contains(table)) {
+            for table in (0..6).filter(|table| !written.contains(table)) {
                 assert_eq!(after[table], before[table], "kind {kind}, table {table}");
             }
         }
@@ -398,7 +408,7 @@ fn a_slice_looks_at_its_kinds_tables_only() {
 fn the_record_goes_on_from_slice_to_slice() {
     let mut words: Words =
         [vec![0; 4], vec![0; 1], vec![0b1000, 0, 0, 0], vec![0], vec![COST_UNKNOWN; 4], vec![0b1111]];
-    for kind in 0..5 {
+    for (kind, ..) in KINDS {
         let (mut job, mut left) = (Job::new(kind), Job::new(kind));
         for visits in 0.. {
             assert_eq!((job.kind, job.next), (kind, visits % PRODS));

@@ -1,7 +1,7 @@
 //! Inputs of docs/DIFFERENCES.md besides document 01's grammars: what is answered where the Rust loses marks, has marks
 //! of dead rules, writes tokens again, panics, never returns or builds no such grammar. In each the start is rule 1, in
 //! the last but one rule 2 too.
-use boltmarrow::{Mode, RIdx, Refusal, TIdx};
+use boltmarrow::{RIdx, Refusal, TIdx};
 
 use crate::grammars::{built, dead, well, RULE};
 use crate::sentences::{cost, count, list, sentence};
@@ -13,20 +13,16 @@ const B: u16 = RULE + 2;
 fn follow_past_a_rule_that_vanishes() {
     // A: A B c; B: nothing
     let grm = well(3, &[(0, &[A]), (1, &[A, B, 0]), (2, &[])], &[1, 1]);
-    let c_after_a = |mode| grm.follows(mode).is_set(RIdx(1), TIdx(0));
-    assert_eq!((c_after_a(Mode::Crate), c_after_a(Mode::Corrected)), (Ok(false), Ok(true)));
+    assert_eq!(grm.follows().is_set(RIdx(1), TIdx(0)), Ok(true));
 }
 
 #[test]
 fn follow_without_dead_rules() {
     // S: A; A: a; U: A z
-    let grm = dead();
-    let z_after_a = |mode| grm.follows(mode).is_set(RIdx(2), TIdx(1));
-    assert_eq!((z_after_a(Mode::Crate), z_after_a(Mode::Corrected)), (Ok(true), Ok(false)));
+    assert_eq!(dead().follows().is_set(RIdx(2), TIdx(1)), Ok(false));
     // A: nothing; U: A z
     let grm = well(3, &[(0, &[A]), (1, &[]), (2, &[A, 0])], &[1, 1]);
-    let z_after_a = |mode| grm.follows(mode).is_set(RIdx(1), TIdx(0));
-    assert_eq!((z_after_a(Mode::Crate), z_after_a(Mode::Corrected)), (Ok(true), Ok(false)));
+    assert_eq!(grm.follows().is_set(RIdx(1), TIdx(0)), Ok(false));
 }
 
 #[test]

@@ -1,5 +1,5 @@
 //! Jobs: the fills' tables, by slices.
-use boltmarrow::{Cost, Costs, Firsts, Follows, Grammar, Job, Mode, PIdx, Productive, RIdx, TIdx, Whole};
+use boltmarrow::{Cost, Costs, Firsts, Follows, Grammar, Job, PIdx, Productive, RIdx, TIdx, Whole};
 
 use crate::grammars::{comma, dead, doubled, exports, g1, g2, g3, g4, g5, g5_either, g6};
 use crate::refusals::chain;
@@ -66,14 +66,12 @@ fn first_jobs_leave_the_fills_tables() {
 #[test]
 fn follow_jobs_leave_the_fills_tables() {
     for grm in grammars() {
-        for mode in [Mode::Crate, Mode::Corrected] {
-            let filled = grm.follows(mode);
-            let whole = sliced(&grm, || grm.first_job()).remove(0);
-            let tables = sliced(&grm, || grm.follow_job(mode)).into_iter();
-            for table in tables.chain(sliced(&grm, || whole.clone().follow_job(mode))) {
-                assert_eq!(follows(&grm, &table), follows(&grm, &filled));
-                assert_eq!(firsts(&grm, table.firsts()), firsts(&grm, filled.firsts()));
-            }
+        let filled = grm.follows();
+        let whole = sliced(&grm, || grm.first_job()).remove(0);
+        let tables = sliced(&grm, || grm.follow_job()).into_iter();
+        for table in tables.chain(sliced(&grm, || whole.clone().follow_job())) {
+            assert_eq!(follows(&grm, &table), follows(&grm, &filled));
+            assert_eq!(firsts(&grm, table.firsts()), firsts(&grm, filled.firsts()));
         }
     }
 }
@@ -118,25 +116,22 @@ fn a_jobs_table_can_be_asked_meanwhile() {
     assert_eq!((job.slice(6), job.table().firsts(num).unwrap().count()), (6, 0));
     assert_eq!(job.table().is_set(RIdx(2), TIdx(2)), Ok(true));
     assert_eq!((job.slice(1), job.table().firsts(num).unwrap().count()), (1, 2));
-    let mut job = grm.follow_job(Mode::Corrected);
+    let mut job = grm.follow_job();
     assert_eq!(job.table().is_set(RIdx(0), TIdx(3)), Ok(true));
     assert_eq!((job.slice(1), job.table().is_set(RIdx(2), TIdx(0))), (1, Ok(true)));
     let mut job = grm.productive_job();
     assert_eq!((job.slice(2), job.table().is_set(RIdx(2)), job.table().is_set(num)), (2, Ok(true), Ok(false)));
 }
 
-/// S: A; A: a; U: A z. The crate's mode lets U put z behind A.
+/// S: A; A: a; U: A z. The fourth visit is of U's production, which does not put z behind A.
 #[test]
-fn a_dead_rule_changes_a_job_of_the_crates_mode_only() {
+fn a_dead_rule_changes_no_follow_job() {
     let (grm, a, z) = (dead(), RIdx(2), TIdx(1));
-    for (mode, there) in [(Mode::Crate, true), (Mode::Corrected, false)] {
-        let mut job = grm.follow_job(mode);
-        assert_eq!((job.slice(3), job.table().is_set(a, z)), (3, Ok(false)));
-        assert_eq!((job.slice(1), job.table().is_set(a, z)), (1, Ok(there)));
-        // the crate's mode too has all in one round
-        assert_eq!((job.slice(u32::MAX), job.rounds()), (4, 2));
-        assert_eq!(job.finish().ok().unwrap().is_set(a, z), Ok(there));
-    }
+    let mut job = grm.follow_job();
+    assert_eq!((job.slice(3), job.table().is_set(a, z)), (3, Ok(false)));
+    assert_eq!((job.slice(1), job.table().is_set(a, z)), (1, Ok(false)));
+    assert_eq!((job.slice(u32::MAX), job.rounds()), (4, 2));
+    assert_eq!(job.finish().ok().unwrap().is_set(a, z), Ok(false));
 }
 
 /// A is 258 tokens of cost 255 or one of cost 1: dear, and later lowered.

@@ -140,12 +140,12 @@ fn two_that_vanish_and_share_a_token_of_their_own() {
 }
 
 #[test]
-fn follow_is_the_corrected_one() {
-    // S: A B c; A: c; A: nothing; B: b; B: nothing: where B vanishes c follows A, which the crate's mode does not see
+fn follow_looks_past_what_can_vanish_and_not_at_dead_rules() {
+    // S: A B c; A: c; A: nothing; B: b; B: nothing: where B vanishes c follows A
     let [s, a, b] = [A, B, C];
     let prods: [(u16, &[u16]); 6] = [(0, &[s]), (1, &[a, b, 1]), (2, &[1]), (2, &[]), (3, &[0]), (3, &[])];
     clashes(&well(4, &prods, &[1; 3]), 2, [2, 3], 1);
-    // A: z; A: nothing; U: A z, and U is used nowhere: the crate's mode would have z behind A
+    // A: z; A: nothing; U: A z, and U is used nowhere, so z does not follow A
     passes(&well(3, &[(0, &[A]), (1, &[0]), (1, &[]), (2, &[A, 0])], &[1; 2]));
 }
 

@@ -2,7 +2,7 @@
 //! the writer's order.
 use std::collections::HashSet;
 
-use boltmarrow::{Grammar, Mode, PIdx, RIdx, Refusal, TIdx};
+use boltmarrow::{Grammar, PIdx, RIdx, Refusal, TIdx};
 
 use crate::grammars::{built, g1, g1_tables, of, well, RULE};
 
@@ -117,7 +117,7 @@ fn the_limits_pass() {
 #[test]
 fn numbers_that_are_not_there() {
     let grm = g1();
-    let (firsts, follows) = (grm.firsts(), grm.follows(Mode::Corrected));
+    let (firsts, follows) = (grm.firsts(), grm.follows());
     let (rule, token, production) = (Err(Refusal::RuleNumber), Err(Refusal::TokenNumber), Refusal::ProductionNumber);
     assert_eq!(firsts.is_set(RIdx(4), TIdx(0)), rule);
     assert_eq!(firsts.is_set(RIdx(3), TIdx(4)), token);
@@ -137,7 +137,7 @@ fn numbers_that_are_not_there() {
     assert_eq!(grm.rule_to_prods(RIdx(4)), Err(Refusal::RuleNumber));
     assert_eq!(grm.token_cost(TIdx(4)), Err(Refusal::TokenNumber));
     assert_eq!(grm.first_table().visit(PIdx(6)), Err(production));
-    assert_eq!(grm.follow_table(Mode::Crate).visit(PIdx(6)), Err(production));
+    assert_eq!(grm.follow_table().visit(PIdx(6)), Err(production));
     assert_eq!(grm.productive_table().visit(PIdx(6)), Err(production));
     assert_eq!(grm.cost_table().visit(PIdx(6)), Err(production));
 }

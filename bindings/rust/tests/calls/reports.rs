@@ -2,7 +2,7 @@
 use std::fs;
 use std::path::{Path, PathBuf};
 
-use boltmarrow::{Grammar, Mode, Refusal, TIdx};
+use boltmarrow::{Grammar, Refusal, TIdx};
 
 fn examples() -> Vec<PathBuf> {
     let folder = Path::new(env!("CARGO_MANIFEST_DIR")).join("../../examples");
@@ -16,7 +16,7 @@ fn listed(tokens: impl Iterator<Item = TIdx>) -> String {
 
 /// Document 01's report.
 fn report(grm: &Grammar) -> Result<String, Refusal> {
-    let (follows, sentences) = (grm.follows(Mode::Corrected), grm.sentence_generator());
+    let (follows, sentences) = (grm.follows(), grm.sentence_generator());
     let firsts = follows.firsts();
     let mut text = "rule,empty,first,follow,cost\n".to_string();
     for ridx in grm.iter_rules() {

@@ -1,5 +1,5 @@
 //! FIRST, EMPTY, FOLLOW, paths, the reached row, PRODUCTIVE and COST.
-use boltmarrow::{Cost, Grammar, Mode, PIdx, RIdx, SIdx, Symbol, TIdx};
+use boltmarrow::{Cost, Grammar, PIdx, RIdx, SIdx, Symbol, TIdx};
 
 use crate::grammars::{comma, dead, exports, g1, g2, g3, g4, g5, g5_either, g6, well, RULE};
 
@@ -17,8 +17,8 @@ fn empties(grm: &Grammar) -> Vec<bool> {
     grm.iter_rules().map(|ridx| firsts.is_epsilon_set(ridx).unwrap()).collect()
 }
 
-fn follows(grm: &Grammar, mode: Mode) -> Vec<Vec<u16>> {
-    let follows = grm.follows(mode);
+fn follows(grm: &Grammar) -> Vec<Vec<u16>> {
+    let follows = grm.follows();
     grm.iter_rules().map(|ridx| numbers(follows.follows(ridx).unwrap())).collect()
 }
 
@@ -37,26 +37,21 @@ fn g1_is_as_its_report_says() {
     let grm = g1();
     assert_eq!(firsts(&grm), [vec![0, 2], vec![0, 2], vec![2], vec![1]]);
     assert_eq!(empties(&grm), [false, false, true, true]);
-    for mode in [Mode::Crate, Mode::Corrected] {
-        assert_eq!(follows(&grm, mode), [vec![3], vec![3], vec![0], vec![3]]);
-    }
+    assert_eq!(follows(&grm), [vec![3], vec![3], vec![0], vec![3]]);
     assert_eq!(costs(&grm), [1, 1, 0, 0].map(Cost::Is));
 }
 
+/// A is followed by b, and by c where B vanishes.
 #[test]
-fn the_modes_differ_on_g2() {
-    let grm = g2();
-    assert_eq!(follows(&grm, Mode::Crate), [vec![3], vec![3], vec![1], vec![2]]);
-    assert_eq!(follows(&grm, Mode::Corrected), [vec![3], vec![3], vec![1, 2], vec![2]]);
+fn g2s_follow_looks_past_what_can_vanish() {
+    assert_eq!(follows(&g2()), [vec![3], vec![3], vec![1, 2], vec![2]]);
 }
 
 #[test]
-fn the_corrected_mode_keeps_the_field_comma() {
+fn follow_keeps_the_field_comma() {
     let (grm, num, field_comma) = (comma(), RIdx(2), TIdx(2));
-    assert!(!grm.follows(Mode::Crate).is_set(num, field_comma).unwrap());
-    assert!(grm.follows(Mode::Corrected).is_set(num, field_comma).unwrap());
-    assert_eq!(follows(&grm, Mode::Crate)[2], [3]);
-    assert_eq!(follows(&grm, Mode::Corrected)[2], [2, 3, 4]);
+    assert!(grm.follows().is_set(num, field_comma).unwrap());
+    assert_eq!(follows(&grm)[2], [2, 3, 4]);
 }
 
 /// The start has what both exports have; a rule that both share has what follows it in either.
@@ -65,9 +60,8 @@ fn two_exports_in_one_grammar() {
     let grm = exports();
     assert_eq!(firsts(&grm), [vec![0, 1], vec![0], vec![1], vec![2], vec![3]]);
     assert_eq!(empties(&grm), [false, false, false, false, true]);
-    // Num: unit before Unit, comma past it in the corrected mode, eof at the end of Weekly.
-    assert_eq!(follows(&grm, Mode::Crate), [vec![5], vec![5], vec![5], vec![3, 5], vec![4]]);
-    assert_eq!(follows(&grm, Mode::Corrected), [vec![5], vec![5], vec![5], vec![3, 4, 5], vec![4]]);
+    // Num: unit before Unit, comma past it, eof at the end of Weekly.
+    assert_eq!(follows(&grm), [vec![5], vec![5], vec![5], vec![3, 4, 5], vec![4]]);
     // Num 1; Daily 3 + 1 + 0 + 1, Weekly 2 + 1; the start the lesser.
     assert_eq!(costs(&grm), [3, 5, 3, 1, 0].map(Cost::Is));
     assert!(grm.iter_rules().all(|ridx| grm.productive().is_set(ridx).unwrap()));
@@ -80,19 +74,18 @@ fn two_exports_in_one_grammar() {
     assert_eq!(grm.prod_len(PIdx(6)), Ok(SIdx(1)));
 }
 
-/// z follows A in the crate's mode alone, and nothing follows U in either.
+/// z stands behind A in U's production alone, and nothing follows U.
 #[test]
 fn a_dead_rule_puts_nothing_into_follow() {
     let grm = dead();
     assert_eq!(reached(&grm), [true, true, true, false]);
-    assert_eq!(follows(&grm, Mode::Crate), [vec![2], vec![2], vec![1, 2], vec![]]);
-    assert_eq!(follows(&grm, Mode::Corrected), [vec![2], vec![2], vec![2], vec![]]);
+    assert_eq!(follows(&grm), [vec![2], vec![2], vec![2], vec![]]);
     // made an export it is no longer dead
     let prods: [(u16, &[u16]); 5] =
         [(0, &[RULE + 1]), (0, &[RULE + 3]), (1, &[RULE + 2]), (2, &[0]), (3, &[RULE + 2, 1])];
     let both = well(4, &prods, &[1, 1, 1]);
     assert_eq!(reached(&both), [true; 4]);
-    assert_eq!(follows(&both, Mode::Corrected), [vec![2], vec![2], vec![1, 2], vec![2]]);
+    assert_eq!(follows(&both), [vec![2], vec![2], vec![1, 2], vec![2]]);
 }
 
 #[test]
@@ -105,22 +98,20 @@ fn all_rules_of_document_01s_grammars_are_reached() {
 #[test]
 fn a_filled_follow_has_what_it_was_made_from() {
     let grm = g1();
-    let follows = grm.follows(Mode::Corrected);
+    let follows = grm.follows();
     assert_eq!(numbers(follows.firsts().firsts(RIdx(1)).unwrap()), [0, 2]);
     assert!(follows.firsts().is_epsilon_set(RIdx(3)).unwrap());
     let grm = dead();
-    for mode in [Mode::Crate, Mode::Corrected] {
-        let (follows, table) = (grm.follows(mode), grm.follow_table(mode));
-        for reached in [follows.reached(), table.reached()] {
-            assert_eq!([0, 1, 2, 3].map(|r| reached.is_set(RIdx(r))), [Ok(true), Ok(true), Ok(true), Ok(false)]);
-        }
+    let (follows, table) = (grm.follows(), grm.follow_table());
+    for reached in [follows.reached(), table.reached()] {
+        assert_eq!([0, 1, 2, 3].map(|r| reached.is_set(RIdx(r))), [Ok(true), Ok(true), Ok(true), Ok(false)]);
     }
 }
 
 #[test]
 fn a_question_and_a_set_agree() {
     let grm = comma();
-    let (firsts, follows) = (grm.firsts(), grm.follows(Mode::Corrected));
+    let (firsts, follows) = (grm.firsts(), grm.follows());
     for ridx in grm.iter_rules() {
         let asked = |is_set: &dyn Fn(TIdx) -> bool| numbers(grm.iter_tidxs().filter(|tidx| is_set(*tidx)));
         assert_eq!(asked(&|tidx| firsts.is_set(ridx, tidx).unwrap()), numbers(firsts.firsts(ridx).unwrap()));

@@ -1,5 +1,5 @@
 //! Single visits.
-use boltmarrow::{Cost, Grammar, Mode, PIdx, RIdx, Refusal, TIdx};
+use boltmarrow::{Cost, Grammar, PIdx, RIdx, Refusal, TIdx};
 
 use crate::grammars::{comma, dead, exports, g1, g2, g5_either, g6};
 
@@ -46,18 +46,16 @@ fn first_visits_in_another_order_leave_the_fills_table() {
 #[test]
 fn follow_visits_in_another_order_leave_the_fills_table() {
     for grm in [g1(), g2(), comma(), exports(), dead()] {
-        for mode in [Mode::Crate, Mode::Corrected] {
-            let (mut table, filled) = (grm.follow_table(mode), grm.follows(mode));
-            rounds(&grm, |pidx| table.visit(pidx));
-            assert_eq!(marks(&grm, |ridx| table.follows(ridx)), marks(&grm, |ridx| filled.follows(ridx)));
-        }
+        let (mut table, filled) = (grm.follow_table(), grm.follows());
+        rounds(&grm, |pidx| table.visit(pidx));
+        assert_eq!(marks(&grm, |ridx| table.follows(ridx)), marks(&grm, |ridx| filled.follows(ridx)));
     }
 }
 
 #[test]
 fn a_cleared_follow_holds_eof_for_the_start() {
     let grm = g2();
-    let mut table = grm.follow_table(Mode::Corrected);
+    let mut table = grm.follow_table();
     let cleared = [vec![TIdx(3)], vec![], vec![], vec![]];
     assert_eq!(marks(&grm, |ridx| table.follows(ridx)), cleared);
     // S: A B c gives A what B starts with, then c, since B can vanish; B is followed by c.
@@ -73,12 +71,10 @@ fn a_cleared_follow_holds_eof_for_the_start() {
 fn a_visit_of_a_dead_rules_production_changes_nothing() {
     let grm = dead();
     let (a, z, [of_s, of_u]) = (RIdx(2), TIdx(1), [PIdx(1), PIdx(3)]);
-    let mut table = grm.follow_table(Mode::Corrected);
+    let mut table = grm.follow_table();
     let visited = [of_u, PIdx(0), of_u, of_s, of_u].map(|pidx| table.visit(pidx).unwrap());
     assert_eq!(visited, [false, true, false, true, false]);
     assert_eq!(table.is_set(a, z), Ok(false));
-    let mut table = grm.follow_table(Mode::Crate);
-    assert_eq!((table.visit(of_u), table.is_set(a, z)), (Ok(true), Ok(true)));
 }
 
 #[test]

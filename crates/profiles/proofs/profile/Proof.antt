@@ -1,7 +1,7 @@
 use borrow.Author.Needs.{needs}
 use Rattle.grammar.proofs.Callers.{few-rules, few-tokens}
 use Rattle.tables.proofs.Calls.{refuses}
-use Rattle.profiles.proofs.Calling.{profile-wrong, fillable, judgeable, profile-does}
+use Rattle.profiles.proofs.Calling.{profile-7, fillable, judgeable, profile-does}
 use Rattle.profiles.proofs.profile.Statement.{statement}
 use Rattle.profiles.proofs.profile.Tie as tie
 
@@ -39,7 +39,7 @@ same-length-4 : tie.Need-same-length-4
 same-length-4 c = search needs
 
 returns-2 : tie.Need-returns-2
-returns-2 c = let t = c in let x = t .before in let v = x .before .before .before .before .before in let m = v .before in let k = m .before .before in profile-wrong _ _ _ _ _ _ (k .check .ensures) (m .enum-told .given .1) _ (v .wide .ensures .0) _ (x .wrong .ensures) (c .if1 .taken)
+returns-2 c = let t = c in let x = t .before in let v = x .before .before .before .before .before in let m = v .before in let k = m .before .before in profile-7 _ _ _ _ _ _ (k .check .ensures) (m .enum-told .given .1) _ (v .wide .ensures .0) _ (x .wrong .ensures) (c .if1 .taken)
 
 fill-requires : tie.Need-fill-requires
 fill-requires c κs = let t = c .before .before .before .before in let x = t .before in let v = x .before .before .before .before .before in let m = v .before in let k = m .before .before in fillable _ _ _ _ _ _ (k .check .ensures) (m .enum-told .given .1) _ (v .wide .ensures .0) _ (x .wrong .ensures) (t .if1 .left)

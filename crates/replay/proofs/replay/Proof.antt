@@ -27,29 +27,17 @@ array-borrow-prefix-first c = search needs
 slice-aggregate-fill-and-say-2 : tie.Need-slice-aggregate-fill-and-say-2
 slice-aggregate-fill-and-say-2 c = search (needs, length-take-le)
 
-array-borrow-prefix-follow : tie.Need-array-borrow-prefix-follow
-array-borrow-prefix-follow c = search needs
+array-borrow-prefix-cost : tie.Need-array-borrow-prefix-cost
+array-borrow-prefix-cost c = search needs
 
 slice-aggregate-fill-and-say-3 : tie.Need-slice-aggregate-fill-and-say-3
 slice-aggregate-fill-and-say-3 c = search (needs, length-take-le)
 
-array-borrow-prefix-reached : tie.Need-array-borrow-prefix-reached
-array-borrow-prefix-reached c = search needs
-
-slice-aggregate-fill-and-say-4 : tie.Need-slice-aggregate-fill-and-say-4
-slice-aggregate-fill-and-say-4 c = search (needs, length-take-le)
-
-array-borrow-prefix-cost : tie.Need-array-borrow-prefix-cost
-array-borrow-prefix-cost c = search needs
-
-slice-aggregate-fill-and-say-5 : tie.Need-slice-aggregate-fill-and-say-5
-slice-aggregate-fill-and-say-5 c = search (needs, length-take-le)
-
 array-borrow-prefix-lengths : tie.Need-array-borrow-prefix-lengths
 array-borrow-prefix-lengths c = search needs
 
-slice-aggregate-fill-and-say-6 : tie.Need-slice-aggregate-fill-and-say-6
-slice-aggregate-fill-and-say-6 c = search (needs, length-take-le)
+slice-aggregate-fill-and-say-4 : tie.Need-slice-aggregate-fill-and-say-4
+slice-aggregate-fill-and-say-4 c = search (needs, length-take-le)
 
 fill-and-say-requires : tie.Need-fill-and-say-requires
 fill-and-say-requires c κs = search needs
@@ -69,13 +57,9 @@ replay-spec =
     slice-aggregate-fill-and-say
     array-borrow-prefix-first
     slice-aggregate-fill-and-say-2
-    array-borrow-prefix-follow
-    slice-aggregate-fill-and-say-3
-    array-borrow-prefix-reached
-    slice-aggregate-fill-and-say-4
     array-borrow-prefix-cost
-    slice-aggregate-fill-and-say-5
+    slice-aggregate-fill-and-say-3
     array-borrow-prefix-lengths
-    slice-aggregate-fill-and-say-6
+    slice-aggregate-fill-and-say-4
     fill-and-say-requires
     returns)

@@ -6,10 +6,10 @@ use Rattle.replay.proofs.say_rules.Statement.{statement}
 use Rattle.replay.proofs.say_rules.Tie as tie
 
 abbrev Inv-loop : tie.InvT-loop
-Inv-loop rules owners starts symbols costs asked empty first follow cost₀ lengths₀ out₀ rule₀ cost lengths out rule = (rule ≤ rules) × (length out ≡ 1024) × (length cost ≡ length cost₀) × (length lengths ≡ length lengths₀)
+Inv-loop rules owners starts symbols costs asked empty first cost₀ lengths₀ out₀ rule₀ cost lengths out rule = (rule ≤ rules) × (length out ≡ 1024) × (length cost ≡ length cost₀) × (length lengths ≡ length lengths₀)
 
 abbrev μ-loop : tie.MeasureT-loop
-μ-loop rules owners starts symbols costs asked empty first follow cost₀ lengths₀ out₀ rule₀ cost lengths out rule = rules - rule
+μ-loop rules owners starts symbols costs asked empty first cost₀ lengths₀ out₀ rule₀ cost lengths out rule = rules - rule
 
 loop-holds : tie.Need-loop-holds Inv-loop μ-loop
 loop-holds c = search needs

@@ -12,23 +12,14 @@ row-wrong-requires c κs = search needs
 returns : tie.Need-returns
 returns c = search (needs, wrong-first)
 
-table-wrong-requires-2 : tie.Need-table-wrong-requires-2
-table-wrong-requires-2 c κs = search needs
-
-table-wrong-requires-3 : tie.Need-table-wrong-requires-3
-table-wrong-requires-3 c κs = search needs
-
-row-wrong-requires-2 : tie.Need-row-wrong-requires-2
-row-wrong-requires-2 c κs = search needs
-
-row-wrong-requires-3 : tie.Need-row-wrong-requires-3
-row-wrong-requires-3 c κs = search needs
+wrong-requires : tie.Need-wrong-requires
+wrong-requires c κs = search needs
 
 returns-2 : tie.Need-returns-2
 returns-2 c = search (needs, wrong-follow)
 
-row-wrong-requires-4 : tie.Need-row-wrong-requires-4
-row-wrong-requires-4 c κs = search needs
+row-wrong-requires-2 : tie.Need-row-wrong-requires-2
+row-wrong-requires-2 c κs = search needs
 
 returns-3 : tie.Need-returns-3
 returns-3 c = search (needs, wrong-row)
@@ -46,12 +37,9 @@ wrong-spec =
     table-wrong-requires
     row-wrong-requires
     returns
-    table-wrong-requires-2
-    table-wrong-requires-3
-    row-wrong-requires-2
-    row-wrong-requires-3
+    wrong-requires
     returns-2
-    row-wrong-requires-4
+    row-wrong-requires-2
     returns-3
     numbers-wrong-requires
     returns-4)

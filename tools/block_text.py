@@ -1,4 +1,5 @@
-"""bin/blocks as the module `blocks`, the text of a flat grammar for it, and the repository's folder."""
+"""bin/blocks as the module `blocks`, the text of a flat grammar for it and what such a text says, and the repository's
+folder."""
 import importlib.machinery
 import importlib.util
 import pathlib
@@ -7,6 +8,11 @@ TOP = pathlib.Path(__file__).resolve().parent.parent
 LOADER = importlib.machinery.SourceFileLoader("blocks", str(TOP / "bin" / "blocks"))
 blocks = importlib.util.module_from_spec(importlib.util.spec_from_loader("blocks", LOADER))
 LOADER.exec_module(blocks)
+
+
+def tables(made):
+    """R and the four lists that a text (blocks.Text) says, as plain.Grammar takes them."""
+    return made.rules, made.owners, made.starts, made.symbols, made.costs
 
 
 def text_of(g, version=1):

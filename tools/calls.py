@@ -1,23 +1,26 @@
-"""The 26 calls of bindings/include/boltmarrow.h once more, in plain Python, on arbitrary lists and numbers. They are
+"""The 33 calls of bindings/include/boltmarrow.h once more, in plain Python, on arbitrary lists and numbers. They are
 written from documents 01 and 02, over the definitions and visits of plain.py: here are the tables as words, their
-lengths and the calls' own refusals. A block file is written by bin/blocks. A call changes the lists that it is lent,
-and returns its values or raises plain.Refused.
+lengths and the calls' own refusals. A block file is written by bin/blocks. A house call is the call below it on the
+grammar that examples/house.txt says. A call changes the lists that it is lent, and returns its values or raises
+plain.Refused.
 """
 from typing import NamedTuple
 
 import plain
-from block_text import blocks, text_of
+from block_text import TOP, blocks, tables, text_of
 from plain import Refused
 
 LISTS = 4096, 4097, 16384, 512  # the lengths of the lists that the file reader takes
+HOUSE = plain.Grammar(*tables(blocks.Text((TOP / "examples" / "house.txt").read_text())))
 
 
 class Call(NamedTuple):
     takes: str  # behind the grammar: numbers by what they count, k and n of 32 bits; lists of words: marks, row,
     # reached (a row), entries, counts (entries); room and bytes; job, the list of a record's four numbers
-    refusals: tuple  # its own; besides, each gives 1 to 6
+    refusals: tuple  # its own; besides, each gives 1 to 6, but for the house calls
     values: int  # the values of an answer
     make: object
+    house: bool = False  # on the built-in grammar: it takes none
 
 
 def words(count):
@@ -315,7 +318,35 @@ def read_blocks(file, *lists):
     return [g.rules, len(g.costs), len(g.owners), len(g.symbols), version]
 
 
-# In the order of the driver's table (tools/driver/calls.c). The last one takes no grammar, but a file and four lists.
+def house_check():
+    return check(HOUSE)
+
+
+def house_first_fill(first, empty):
+    return first_fill(HOUSE, first, empty)
+
+
+def house_first(first, rule, token):
+    return mark(HOUSE, first, rule, token)
+
+
+def house_empty(empty, rule):
+    return rule_mark(HOUSE, empty, rule)
+
+
+def house_cost_fill(cost):
+    return cost_fill(HOUSE, cost)
+
+
+def house_cost(rule, cost):
+    return min_sentence_cost(HOUSE, rule, cost)
+
+
+def house_row(cost, lengths, out):
+    return min_sentence(HOUSE, 0, cost, lengths, out)
+
+
+# In the order of the driver's table (tools/driver/calls.c). read_blocks takes no grammar, but a file and four lists.
 CALLS = {
     "check": Call("", (), 1, check),
     "production": Call("prod", (11,), 2, production),
@@ -343,6 +374,13 @@ CALLS = {
     "min_sentence_at": Call("rule k entries entries counts room", (7, 9, 12, 13, 14, 15, 16), 1, min_sentence_at),
     "write_blocks": Call("version bytes", (24, 25, 26), 1, write_blocks),
     "read_blocks": Call("", (7, 20, 21, 22, 23, 25), 5, read_blocks),
+    "house_check": Call("", (), 1, house_check, house=True),
+    "house_first_fill": Call("marks row", (7,), 1, house_first_fill, house=True),
+    "house_first": Call("marks rule token", (7, 9, 10), 1, house_first, house=True),
+    "house_empty": Call("row rule", (7, 9), 1, house_empty, house=True),
+    "house_cost_fill": Call("entries", (7,), 1, house_cost_fill, house=True),
+    "house_cost": Call("rule entries", (7, 9), 1, house_cost, house=True),
+    "house_row": Call("entries entries room", (7, 15), 1, house_row, house=True),
 }
 
 

@@ -10,10 +10,10 @@ many grammars have equal choices, circles or some 65535 rows, and k is around th
 anywhere in its round, yes said by any number, now and then done; its slice is of no visit up to all that are left, and
 tables of other kinds are of any length, 0 included. A profile's grammar has many productions that one token tells
 apart, and in some few that it does not. A block file is of either version and has what a file can have wrong; one that
-is written must be bin/blocks' own. The answer and every element of every list must be equal, those of a job's record
-too. It prints how often each call gave each refusal, 0 for an answer, and how often the profile gave each verdict; it
-exits with 1 if an answer differs, or if of the usual number of calls none gave some refusal that the call can give, or
-some verdict.
+is written must be bin/blocks' own. A house call has no grammar, and the rest of it is drawn as for the built-in one.
+The answer and every element of every list must be equal, those of a job's record too. It prints how often each call
+gave each refusal, 0 for an answer, and how often the profile gave each verdict; it exits with 1 if an answer differs,
+or if of the usual number of calls none gave some refusal that the call can give, or some verdict.
 """
 import array
 import collections
@@ -165,9 +165,9 @@ def any_k(draw, g, rule):
     return draw.choice((*some, *some, count, count + 1, MOST, MOST + 1, WORD, draw.getrandbits(32)))
 
 
-def any_room(draw, g, rule, *k):
-    """Room for the output: as long as the sentence, number k if that is given, if there is one, one shorter or longer,
-    or any."""
+def any_room(draw, g, rule=0, *k):
+    """Room for the output: as long as the sentence, if there is one, one shorter or longer, or any. The sentence is the
+    start's if no rule is given, and number k if that is given."""
     try:
         exact = len(plain.sentence_at(g, rule, *k) if k else plain.sentence(g, rule))
     except plain.Refused:
@@ -310,6 +310,8 @@ def any_call(draw):
     name = draw.choice(DRAWN)
     if name == "read_blocks":
         return name, [list(any_file(draw)), *any_lists(draw)]
+    if calls.CALLS[name].house:
+        return name, parameters(draw, name, calls.HOUSE)
     many = name in LISTS and draw.random() < 0.04
     g = any_grammar(draw, ["many_rows"] if many else TELLING.get(name, QUICK) if draw.random() < 0.6 else QUICK)
     if name == "write_blocks":
@@ -385,7 +387,7 @@ def table(counts):
 def never(counts, verdicts):
     """What a call can answer by the documents and did not."""
     for name, call in calls.CALLS.items():
-        for number in (0, *range(1, 7), *call.refusals):
+        for number in (0, *(() if call.house else range(1, 7)), *call.refusals):
             if not counts[name, number]:
                 yield f"{name} never gave {number}"
     yield from (f"profile never gave {each}" for each in VERDICTS if not verdicts[each])

@@ -1,6 +1,6 @@
 """The grammars with names that bin/compare runs first, and what docs/DIFFERENCES.md and document 01 say of them."""
 import plain
-from block_text import TOP, blocks
+from block_text import TOP, blocks, tables
 
 # Inputs of docs/DIFFERENCES.md that are no examples, in the form of bin/blocks; and document 01's sixty rules.
 CASES = {
@@ -22,6 +22,7 @@ CASES = {
     "513 rules": "tokens a eof|rules start " + " ".join(f"r{k}" for k in range(1, 513)) + "|start: r1"
     + "".join(f"|r{k}: a" for k in range(1, 513)),
 }
+ROW = [0, 4, 0, 4, 0, 2, 0, 5, 0, *[2] * 36, 6]  # the house export's cheapest row, by hand
 OVERFLOW = {"panicked": "Overflow occurred when calculating rule costs"}
 LATE = "out of time"
 
@@ -79,6 +80,10 @@ SAID = [
     ("again", "lists 1", returned([]), "lists 1", returned([])),
     ("sixty", "lists 1", LATE, "lists 1", returned([])),
     ("513 rules", "sentences 512", returned(0), "refused", 1),
+    ("house", "first 14", [0, 3], "first 14", [0, 3]),
+    ("house", "costs returned 0", 46, "costs 0", returned(46)),
+    ("house", "sentences 0 returned 0", 6, "sentences 0", returned(*ROW)),
+    ("house", "lists 0", returned(ROW), "lists 0", returned(ROW)),
 ]
 
 
@@ -95,4 +100,4 @@ def texts():
 def named():
     """Their grammars."""
     for name, made in texts():
-        yield name, plain.Grammar(made.rules, made.owners, made.starts, made.symbols, made.costs)
+        yield name, plain.Grammar(*tables(made))

@@ -43,13 +43,18 @@ logic=not-proved
 """
 
 
+def places(crate):
+    """What may be edited of a crate: its functions and its tables."""
+    return source.functions(crate) | source.tables(crate)
+
+
 def edit(name):
     return source.Edit(f"rows::inner::{name}", 1, "operand", "what", [])
 
 
 def verdict(name, printed=PRINTED):
     said = dict(run.SAID.findall(printed))
-    return run.judged(edit(name), said, run.needs_refused("rows", printed))
+    return run.judged(edit(name), said, run.needs_refused("rows", printed), {})
 
 
 class Lists(unittest.TestCase):
@@ -65,7 +70,7 @@ class Lists(unittest.TestCase):
 
     def test_each_edit_changes_its_function_and_nothing_else(self):
         for path in run.HERE.glob("*.edits"):
-            found = source.functions(TOP / "crates" / path.stem)
+            found = places(TOP / "crates" / path.stem)
             for e in source.read_edits(path, path.stem):
                 function = found[e.function]
                 (text,) = source.edited(found, [e]).values()
@@ -75,7 +80,7 @@ class Lists(unittest.TestCase):
 
     def test_no_two_edits_of_a_function_are_one(self):
         for path in run.HERE.glob("*.edits"):
-            found = source.functions(TOP / "crates" / path.stem)
+            found = places(TOP / "crates" / path.stem)
             edits = source.read_edits(path, path.stem)
             texts = [tuple(source.edited(found, [e]).values()) for e in edits]
             self.assertEqual(len(set(texts)), len(edits), path.name)

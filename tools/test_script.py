@@ -14,6 +14,9 @@ import plain
 
 SCRIPTS = pathlib.Path(__file__).resolve().parent.parent / "bindings" / "scripts"
 STEPS = {"x": 0, "+": 1, "-": -1}
+# A step that makes a call for every number behind the first so many.
+EACH = {"first_visit": 0, "productive_visit": 0, "cost_visit": 0, "follow_visit": 1}
+EACH |= {"house_first": 1, "house_empty": 0, "house_cost": 0}
 SHORT, FRONT = 600, 16  # a list of that length is not shown whole, but its front
 OLD = 9999, 9999, 9999, 99  # what the lists are full of that a file is read into
 NAMED = 8  # the numbers of a longer front, or of more checks, are not said, but their sum
@@ -120,18 +123,18 @@ class Case:
             return self.write(*given)
         if name == "profile":
             return verdict(self.called(name, given))
-        if name.endswith("_visit"):
-            before, prods = (given[:1], given[1:]) if name == "follow_visit" else ([], given)
-            return shown([word for p in prods for word in self.called(name, [*before, p])])
+        if name in EACH:
+            before, rest = given[: EACH[name]], given[EACH[name] :]
+            return shown([word for number in rest for word in self.called(name, [*before, number])])
         return said(self.called(name, given))
 
     def called(self, name, given):
-        takes = calls.CALLS[name].takes.split()
-        lists = iter([self.b] if name == "rule_mark" else [self.a, self.b, self.c])
+        takes, grammar = calls.CALLS[name].takes.split(), [] if calls.CALLS[name].house else [self.grammar]
+        lists = iter([self.b] if name in ("rule_mark", "house_empty") else [self.a, self.b, self.c])
         given = iter(given)
         kinds = {"marks": lists, "row": lists, "entries": lists, "counts": lists, "room": iter([self.out])}
         kinds["reached"] = iter([self.d])
-        refusal, *values = calls.answer(name, [self.grammar, *(next(kinds.get(kind, given)) for kind in takes)])
+        refusal, *values = calls.answer(name, [*grammar, *(next(kinds.get(kind, given)) for kind in takes)])
         return [f"refused {refusal}"] if refusal else values
 
     def sliced(self, n):
@@ -200,6 +203,14 @@ class Scripts(unittest.TestCase):
 
     def test_files(self):
         self.assertGreater(self.hold("files.txt"), 100)
+
+    def test_house(self):
+        self.assertGreater(self.hold("house.txt"), 150)
+
+    def test_house_written_out(self):
+        """The grammar of the house calls stands in some cases, and is that of its text."""
+        lines = {line for line in (SCRIPTS / "house.txt").read_text().splitlines() if line.startswith("58;")}
+        self.assertEqual([Case(line, ";;;").grammar for line in lines], [calls.HOUSE])
 
     def test_g1_file(self):
         g1 = Case("4;1 2 2 3 3 0;0 3 4 4 6 6 7;32770 0 32771 2 1 0 32769;1x4", ";;;").grammar

@@ -209,8 +209,8 @@ static void say_verdict(boltmarrow_verdict v) {
     _Generic((answer), boltmarrow_answer: say_answer, boltmarrow_stretch: say_stretch,                                 \
              boltmarrow_verdict: say_verdict)(answer)
 
-/* The calls on a grammar, a line each: ONE has so many numbers in its brackets, WIDE too, and the last of these has 32
- * bits; EACH is made for every number behind the first so many. */
+/* The calls on a grammar and those on the built-in one, a line each: ONE has so many numbers in its brackets, WIDE too,
+ * and the last of these has 32 bits; EACH is made for every number behind the first so many. */
 #define LIST(type, list) (type *)(void *)lent[list].at, lent[list].len
 #define G                                                                                                              \
     rules, LIST(const uint16_t, OWNERS), LIST(const uint16_t, STARTS), LIST(const uint16_t, SYMBOLS),                  \
@@ -244,7 +244,14 @@ static void say_verdict(boltmarrow_verdict v) {
     ONE(profile, 0, G, T(A), T(B), T(C), T(D))                                                                         \
     ONE(min_sentence, 1, G, RULE(0), T(A), T(B), LIST(uint16_t, OUT))                                                  \
     ONE(count_min_sentences, 1, G, RULE(0), T(A), T(B), T(C))                                                          \
-    WIDE(min_sentence_at, 2, G, RULE(0), K(1), T(A), T(B), T(C), LIST(uint16_t, OUT))
+    WIDE(min_sentence_at, 2, G, RULE(0), K(1), T(A), T(B), T(C), LIST(uint16_t, OUT))                                  \
+    ONE(house_check, 0, )                                                                                              \
+    ONE(house_first_fill, 0, T(A), T(B))                                                                               \
+    EACH(house_first, 1, T(A), RULE(0), TOKEN(i))                                                                      \
+    EACH(house_empty, 0, T(B), RULE(i))                                                                                \
+    ONE(house_cost_fill, 0, T(A))                                                                                      \
+    EACH(house_cost, 0, RULE(i), T(A))                                                                                 \
+    ONE(house_row, 0, T(A), T(B), LIST(uint16_t, OUT))
 
 #define ONE(name, numbers, ...)                                                                                        \
     static void name(void) { SAY(boltmarrow_##name(__VA_ARGS__)); }

@@ -256,17 +256,62 @@ static result wide(const call *c, copies l) {
         return library(c, l);
     }
 }
+
+/* The house calls, by the call that each is on the house's grammar; the sentence is the start's. */
+enum { HOUSE_CALLS = 7 };
+static const op house_ops[HOUSE_CALLS] = {CHECK,     FIRST_FILL,        MARK,        RULE_MARK,
+                                          COST_FILL, MIN_SENTENCE_COST, MIN_SENTENCE};
+static const char *const house_names[OPS] = {
+    [CHECK] = "house_check",         [FIRST_FILL] = "house_first_fill", [MARK] = "house_first",
+    [RULE_MARK] = "house_empty",     [COST_FILL] = "house_cost_fill",   [MIN_SENTENCE_COST] = "house_cost",
+    [MIN_SENTENCE] = "house_row"};
+
+static result house(const call *c, copies l) {
+    boltmarrow_ridx rule = {c->rule};
+    boltmarrow_tidx token = {c->token};
+    switch (c->op) {
+    case CHECK:
+        return pack(boltmarrow_house_check());
+    case FIRST_FILL:
+        return pack(boltmarrow_house_first_fill(T(0), T(1)));
+    case MARK:
+        return pack(boltmarrow_house_first(T(0), rule, token));
+    case RULE_MARK:
+        return pack(boltmarrow_house_empty(T(0), rule));
+    case COST_FILL:
+        return pack(boltmarrow_house_cost_fill(T(0)));
+    case MIN_SENTENCE_COST:
+        return pack(boltmarrow_house_cost(rule, T(0)));
+    default:
+        return pack(boltmarrow_house_row(T(0), T(1), l.out, c->out_len));
+    }
+}
+
+boltmarrow_answer wide_first(LIST(const uint32_t), uint64_t, uint64_t) __asm__("boltmarrow_house_first");
+boltmarrow_answer wide_empty(LIST(const uint32_t), uint64_t) __asm__("boltmarrow_house_empty");
+boltmarrow_answer wide_cost(uint64_t, LIST(uint32_t)) __asm__("boltmarrow_house_cost");
+
+static result wide_house(const call *c, copies l) {
+    switch (c->op) {
+    case MARK:
+        return pack(wide_first(T(0), slot(c->rule), slot(c->token)));
+    case RULE_MARK:
+        return pack(wide_empty(T(0), slot(c->rule)));
+    case MIN_SENTENCE_COST:
+        return pack(wide_cost(slot(c->rule), T(0)));
+    default:
+        return house(c, l);
+    }
+}
 #undef LISTS
 #undef G
 #undef T
 #undef LIST
 #undef WIDE
 
-/* Makes a call both ways and compares; the call's own lists then hold what the model left. */
-static result run(call *c) {
-    const char *what = names[c->op];
-    copies l = lend_all(c);
-    result got = below(4) ? library(c, l) : wide(c, l), want = model(c);
+/* Compares what the library answered and left with the model; the call's own lists then hold what the model left. */
+static result compared(const char *what, call *c, result got) {
+    result want = model(c);
     boltmarrow_job job = job_of(c->job);
     calls++;
     expect(what, got.refusal, want.refusal);
@@ -280,6 +325,18 @@ static result run(call *c) {
     if (c->op == WRITE_BLOCKS) returned(what, LENT, c->bytes);
     if (c->op == SLICE) returned(what, LENT, &job);
     return got;
+}
+
+/* Makes a call both ways and compares. */
+static result run(call *c) {
+    copies l = lend_all(c);
+    return compared(names[c->op], c, below(4) ? library(c, l) : wide(c, l));
+}
+
+/* The same for a house call: to the model it is the call that it names, on the house's grammar. */
+static result run_house(call *c) {
+    copies l = lend_all(c);
+    return compared(house_names[c->op], c, below(4) ? house(c, l) : wide_house(c, l));
 }
 
 /* A grammar being written down. */
@@ -869,6 +926,167 @@ static void dead(void) {
     follow_is(2, 0);
     passes();
     jobs();
+}
+
+/* The house export, as examples/house.txt says it: rules 0 start, 1 Row, 2 to 13 the rooms, 14 to 49 temperature,
+ * humidity and carbon dioxide room by room, 50 Stamp, 51 Date, 52 Time, 53 Degrees, 54 Percent, 55 Parts, 56 Sign,
+ * 57 Fraction; tokens 0 digits, 1 decimal comma, 2 semicolon, 3 minus, 4 dot, 5 colon, 6 newline, 7 eof. */
+static void begin_house(void) {
+    begin(58, 8, 1), costs[7] = 0;
+    PROD(0, R(1));
+    PROD(1, R(50), R(2), R(3), R(4), R(5), R(6), R(7), R(8), R(9), R(10), R(11), R(12), R(13), 6);
+    for (uint16_t i = 0; i < 12; i++) PROD((uint16_t)(2 + i), 2, R(14 + 3 * i), 2, R(15 + 3 * i), 2, R(16 + 3 * i));
+    for (uint16_t value = 14; value < 50; value++) {
+        PROD(value, (uint16_t)R(53 + (value - 14) % 3));
+        prod(value, NULL, 0);
+    }
+    PROD(50, R(51), 2, R(52)), PROD(51, 0, 4, 0, 4, 0), PROD(52, 0, 5, 0);
+    PROD(53, R(56), 0, R(57)), PROD(54, 0, R(57)), PROD(55, 0);
+    PROD(56, 3), prod(56, NULL, 0), PROD(57, 1, 0), prod(57, NULL, 0);
+}
+
+/* What a rule of the house has in a table, by the rule's kind. */
+static uint32_t house_entry(uint16_t rule, uint32_t row, uint32_t room, const uint32_t *fields, const uint32_t *rest) {
+    return rule < 2 ? row : rule < 14 ? room : rule < 50 ? fields[(rule - 14) % 3] : rest[rule - 50];
+}
+
+static uint32_t house_first_of(uint16_t rule) {
+    static const uint32_t fields[] = {9, 1, 1}, rest[] = {1, 1, 1, 9, 1, 1, 8, 2};
+    return house_entry(rule, 1, 4, fields, rest);
+}
+
+/* All tokens but eof cost 1, and no sentence has eof: a rule's cost is the length of its sentence too. */
+static uint32_t house_cost_of(uint16_t rule) {
+    static const uint32_t fields[] = {0, 0, 0}, rest[] = {9, 5, 3, 1, 1, 1, 0, 0};
+    return house_entry(rule, 46, 3, fields, rest);
+}
+
+/* The header's numbers, and the grammar through the calls on any. */
+static void house_grammar(void) {
+    static const uint32_t rules[] = {BOLTMARROW_HOUSE_STAMP, BOLTMARROW_HOUSE_DATE, BOLTMARROW_HOUSE_TIME,
+                                     BOLTMARROW_HOUSE_DEGREES, BOLTMARROW_HOUSE_PERCENT, BOLTMARROW_HOUSE_PARTS,
+                                     BOLTMARROW_HOUSE_SIGN, BOLTMARROW_HOUSE_FRACTION};
+    static const uint32_t tokens[] = {BOLTMARROW_HOUSE_DIGITS, BOLTMARROW_HOUSE_DECIMAL_COMMA,
+                                      BOLTMARROW_HOUSE_SEMICOLON, BOLTMARROW_HOUSE_MINUS, BOLTMARROW_HOUSE_DOT,
+                                      BOLTMARROW_HOUSE_COLON, BOLTMARROW_HOUSE_NEWLINE, BOLTMARROW_HOUSE_EOF};
+    begin_house();
+    expect("house: rules", g.rules, BOLTMARROW_HOUSE_RULES);
+    expect("house: tokens", g.tokens, BOLTMARROW_HOUSE_TOKENS);
+    expect("house: productions and symbols", g.prods * 1000 + g.symbols_len, 96143);
+    expect("house: words of FIRST", length_of('T', &g), BOLTMARROW_HOUSE_FIRST_WORDS);
+    expect("house: words of EMPTY", length_of('E', &g), BOLTMARROW_HOUSE_EMPTY_WORDS);
+    for (uint32_t i = 0; i < 8; i++) expect("house: a rule", rules[i], 50 + i), expect("house: a token", tokens[i], i);
+    expect("house: Row", BOLTMARROW_HOUSE_ROW, 1);
+    for (uint32_t i = 1; i <= 12; i++) {
+        expect("house: a room", BOLTMARROW_HOUSE_ROOM(i), 1 + i);
+        expect("house: a temperature", BOLTMARROW_HOUSE_TEMPERATURE(i), 14 + 3 * (i - 1));
+        expect("house: a humidity", BOLTMARROW_HOUSE_HUMIDITY(i), 15 + 3 * (i - 1));
+        expect("house: carbon dioxide", BOLTMARROW_HOUSE_CARBON(i), 16 + 3 * (i - 1));
+    }
+    passes();
+    jobs();
+    sentence_is(0, BOLTMARROW_HOUSE_ROW_LENGTH, 0, 46);
+    count_is(0, 0, 1, 1);
+}
+
+/* FIRST and EMPTY, by words and by queries. */
+static void house_marks(void) {
+    call c = make(FIRST_FILL);
+    expect("house: FIRST and EMPTY", run_house(&c).refusal, 0);
+    for (uint16_t r = 0; r < 58; r++) expect("house: FIRST", words[0][r], house_first_of(r));
+    expect("house: EMPTY", words[1][0], 0xFFFFC000);
+    expect("house: EMPTY", words[1][1], 0x0303FFFF);
+    for (uint16_t r = 0; r < 58; r++) {
+        for (uint16_t t = 0; t < 8; t++) {
+            call mark = {.op = MARK, .g = g, .rule = r, .token = t, .table = {words[0]}, .table_len = {58}};
+            expect("house: a mark", run_house(&mark).field[0], house_first_of(r) >> t & 1);
+        }
+        call empty = {.op = RULE_MARK, .g = g, .rule = r, .table = {words[1]}, .table_len = {2}};
+        expect("house: a rule that vanishes", run_house(&empty).field[0], (r >= 14 && r < 50) || r >= 56);
+    }
+}
+
+static void house_costs(void) {
+    call c = make(COST_FILL);
+    expect("house: COST", run_house(&c).refusal, 0);
+    for (uint16_t r = 0; r < 58; r++) expect("house: COST", words[0][r], house_cost_of(r));
+    for (uint16_t r = 0; r < 58; r++) {
+        c = make(MIN_SENTENCE_COST), c.rule = r;
+        expect("house: a cost", run_house(&c).field[0], house_cost_of(r));
+    }
+}
+
+/* The row in so much room. */
+static void house_row_is(size_t room) {
+    static const uint16_t stamp[] = {0, 4, 0, 4, 0, 2, 0, 5, 0};
+    call c = make(MIN_SENTENCE);
+    c.out_len = room;
+    result r = run_house(&c);
+    expect("house: the row's refusal", r.refusal, room < 46 ? 15 : 0);
+    expect("house: the row's length", r.field[0], room < 46 ? 0 : 46);
+    for (uint16_t k = 0; k < 58; k++) {
+        expect("house: the row's COST", words[0][k], house_cost_of(k));
+        expect("house: the row's lengths", words[1][k], house_cost_of(k));
+    }
+    for (size_t i = 0; i < 46 && room >= 46; i++)
+        expect("house: the row", output[i], i < 9 ? stamp[i] : i < 45 ? 2 : 6);
+}
+
+/* In room of none to 99, and around that which is 46 in 16 bits. */
+static void house_rows(void) {
+    for (size_t room = 0; room < 100; room++) house_row_is(room);
+    for (size_t room = 65536 + 44; room < 65536 + 48; room++) house_row_is(room);
+}
+
+/* 7 for each table of each call, before 9, 10 and 15; then 9, then 10. */
+static void house_refusals(void) {
+    for (int k = 0; k < HOUSE_CALLS; k++) {
+        op o = house_ops[k];
+        int rule = o == MARK || o == RULE_MARK || o == MIN_SENTENCE_COST;
+        for (size_t i = 0; i < strlen(tables_of[o]); i++)
+            for (int how = 0; how < 10; how++) {
+                call c = make(o);
+                size_t right = c.table_len[i], bad[] = {0, right - 1, right + 1, right + 65536, WORDS};
+                c.table_len[i] = bad[how / 2];
+                if (how % 2 && rule) c.rule = 58;
+                if (how % 2) c.token = 8, c.out_len = 45;
+                expect("house: length of a table", run_house(&c).refusal, 7);
+            }
+        for (int how = 0; how < 4 && rule; how++) {
+            call c = make(o);
+            c.rule = how % 2 ? 65535 : 58, c.token = how / 2 ? 8 : 7;
+            expect("house: rule number", run_house(&c).refusal, 9);
+            c = make(o), c.rule = 57, c.token = how % 2 ? 65535 : 8;
+            expect("house: token number", run_house(&c).refusal, o == MARK ? 10 : 0);
+        }
+    }
+}
+
+/* Random house calls, some upon what earlier ones left. */
+static void house_random(int count) {
+    for (int n = 0; n < count; n++) {
+        call c = make(house_ops[below(HOUSE_CALLS)]);
+        for (int i = 0; i < 4; i++) {
+            if (c.op != MIN_SENTENCE) c.rule = (uint16_t)(below(8) ? below(59) : next());
+            c.token = (uint16_t)(below(8) ? below(9) : next());
+            c.out_len = below(below(4) ? 100 : 100000);
+            size_t *len = &c.table_len[below(2)], right = *len;
+            if (below(6) == 0) *len = below(2) ? right + below(3) - (right > 0) : below(200);
+            run_house(&c);
+            *len = right;
+        }
+    }
+}
+
+static void house_export(void) {
+    house_grammar();
+    call c = make(CHECK);
+    expect("house: check", run_house(&c).refusal, 0);
+    house_marks();
+    house_costs();
+    house_rows();
+    house_refusals();
+    house_random(1000);
 }
 
 /* Doubling rules: lengths 65535 and 65536, and sixty that come to nothing. */
@@ -1610,6 +1828,7 @@ int main(void) {
     more_exports();
     dear_and_unknown();
     dead();
+    house_export();
     lengths();
     profile_orders();
     profile_vanishing();

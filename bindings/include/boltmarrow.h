@@ -1,5 +1,6 @@
 /* Boltmarrow: FIRST, EMPTY, FOLLOW, paths, minimum costs and the cheapest sentences of a flat
- * grammar, and whether one token is enough to read it.
+ * grammar, and whether one token is enough to read it. One grammar is built in, the house export's:
+ * its calls, boltmarrow_house_.., stand at the end.
  *
  * A grammar is R rules (`rules`); owners (P numbers); starts (P+1 numbers); symbols (N numbers);
  * token costs (T bytes). P, N and T are the lists' lengths. Production p is symbols starts[p] up
@@ -35,9 +36,9 @@
  * Stack. boltmarrow_min_sentence takes up to 110 KB: 208 bytes for each level of rules in rules, of
  * which there are at most 512. boltmarrow_count_min_sentences takes up to 170 KB, 276 bytes a level,
  * and boltmarrow_min_sentence_at up to 280 KB, 512 bytes a level. boltmarrow_has_path,
- * boltmarrow_reached_fill and boltmarrow_follow_fill take 12 KB, boltmarrow_profile 47 KB,
- * boltmarrow_slice takes 1.25 KB, every other call at most 1 KB. No call takes other memory than its
- * stack and its lists.
+ * boltmarrow_reached_fill, boltmarrow_follow_fill and boltmarrow_house_row take 12 KB,
+ * boltmarrow_profile 47 KB, boltmarrow_slice takes 1.25 KB, the other house calls take 1.5 KB, every
+ * other call at most 1 KB. No call takes other memory than its stack and its lists.
  *
  * Refusals:
  *   1  R, T, P or N outside its limits (R 2..512, T 1..512, P 2..4096, N 1..16384)
@@ -307,6 +308,77 @@ boltmarrow_counts boltmarrow_read_blocks(const uint8_t *file, size_t file_len, u
  * with the same bytes. */
 boltmarrow_answer boltmarrow_write_blocks(BOLTMARROW_GRAMMAR, uint16_t version, uint8_t *out,
                                           size_t out_len);
+
+/* The house export, built in: the grammar of the controller's own CSV, a row with date and time and,
+ * of each of twelve rooms, temperature, humidity and carbon dioxide, any of which may be missing:
+ *
+ *     14.11.2026;06:15;17,4;91,5;1240;18,9;;650; .. ;-2,1;88;410
+ *
+ * examples/house.txt has it as a text. A house call takes no grammar, and is otherwise the call above
+ * that it names, on this one; so none of 1 to 6 is given, and none of 12 to 14: every rule has a
+ * sentence, and no choice is circular. A token's cost is the characters that it takes at least; eof
+ * costs nothing.
+ *
+ * The lengths: of FIRST and EMPTY in words, and the tokens of the cheapest row. COST and the lengths
+ * of sentences are BOLTMARROW_HOUSE_RULES numbers. */
+#define BOLTMARROW_HOUSE_RULES 58u
+#define BOLTMARROW_HOUSE_TOKENS 8u
+#define BOLTMARROW_HOUSE_FIRST_WORDS 58u
+#define BOLTMARROW_HOUSE_EMPTY_WORDS 2u
+#define BOLTMARROW_HOUSE_ROW_LENGTH 46u
+
+/* its tokens */
+#define BOLTMARROW_HOUSE_DIGITS 0u
+#define BOLTMARROW_HOUSE_DECIMAL_COMMA 1u
+#define BOLTMARROW_HOUSE_SEMICOLON 2u
+#define BOLTMARROW_HOUSE_MINUS 3u
+#define BOLTMARROW_HOUSE_DOT 4u
+#define BOLTMARROW_HOUSE_COLON 5u
+#define BOLTMARROW_HOUSE_NEWLINE 6u
+#define BOLTMARROW_HOUSE_EOF 7u
+
+/* its rules behind the start, which is rule 0: the row; of room i, from 1 to 12, the three fields and
+ * each of them, which may be empty; date and time, and what the fields are made of */
+#define BOLTMARROW_HOUSE_ROW 1u
+#define BOLTMARROW_HOUSE_ROOM(i) ((uint16_t)(1u + (i)))
+#define BOLTMARROW_HOUSE_TEMPERATURE(i) ((uint16_t)(11u + 3u * (i)))
+#define BOLTMARROW_HOUSE_HUMIDITY(i) ((uint16_t)(12u + 3u * (i)))
+#define BOLTMARROW_HOUSE_CARBON(i) ((uint16_t)(13u + 3u * (i)))
+#define BOLTMARROW_HOUSE_STAMP 50u
+#define BOLTMARROW_HOUSE_DATE 51u
+#define BOLTMARROW_HOUSE_TIME 52u
+#define BOLTMARROW_HOUSE_DEGREES 53u
+#define BOLTMARROW_HOUSE_PERCENT 54u
+#define BOLTMARROW_HOUSE_PARTS 55u
+#define BOLTMARROW_HOUSE_SIGN 56u
+#define BOLTMARROW_HOUSE_FRACTION 57u
+
+/* boltmarrow_check: it is well formed, so this always answers. */
+boltmarrow_answer boltmarrow_house_check(void);
+
+/* boltmarrow_first_fill: FIRST and EMPTY, whatever was there. Refusal 7. */
+boltmarrow_answer boltmarrow_house_first_fill(uint32_t *first, size_t first_len, uint32_t *empty,
+                                              size_t empty_len);
+
+/* boltmarrow_mark: whether a rule is marked for a token in FIRST. Refusals 7, 9, 10. */
+boltmarrow_answer boltmarrow_house_first(const uint32_t *first, size_t first_len,
+                                         boltmarrow_ridx rule, boltmarrow_tidx token);
+
+/* boltmarrow_rule_mark: whether a rule is marked in EMPTY. Refusals 7, 9. */
+boltmarrow_answer boltmarrow_house_empty(const uint32_t *empty, size_t empty_len,
+                                         boltmarrow_ridx rule);
+
+/* boltmarrow_cost_fill: COST, whatever was there. Refusal 7. */
+boltmarrow_answer boltmarrow_house_cost_fill(uint32_t *cost, size_t cost_len);
+
+/* boltmarrow_min_sentence_cost: the least cost of a rule. Refusals 7, 9; then COST is filled. */
+boltmarrow_answer boltmarrow_house_cost(boltmarrow_ridx rule, uint32_t *cost, size_t cost_len);
+
+/* boltmarrow_min_sentence of the start: writes the cheapest row, with every value missing, to the
+ * front of `out` and keeps the rest; the answer is its length, BOLTMARROW_HOUSE_ROW_LENGTH. Refusal 7;
+ * then both tables are filled, and 15 follows where `out` is shorter, which leaves it as found. */
+boltmarrow_answer boltmarrow_house_row(uint32_t *cost, size_t cost_len, uint32_t *lengths,
+                                       size_t lengths_len, uint16_t *out, size_t out_len);
 
 #ifdef __cplusplus
 }

@@ -67,6 +67,13 @@ CALL(min_sentence, GRAMMAR, RIDX(1), WORDS(4), WORDS(5), HALVES(6))
 CALL(count_min_sentences, GRAMMAR, RIDX(1), WORDS(4), WORDS(5), WORDS(6))
 CALL(min_sentence_at, GRAMMAR, RIDX(1), c->number[2], WORDS(4), WORDS(5), WORDS(6), HALVES(7))
 CALL(write_blocks, GRAMMAR, NUMBER(1), BYTES(4))
+CALL(house_check, )
+CALL(house_first_fill, WORDS(0), WORDS(1))
+CALL(house_first, WORDS(0), RIDX(0), TIDX(1))
+CALL(house_empty, WORDS(0), RIDX(0))
+CALL(house_cost_fill, WORDS(0))
+CALL(house_cost, RIDX(0), WORDS(0))
+CALL(house_row, WORDS(0), WORDS(1), HALVES(2))
 
 static void production(struct call *c) {
     boltmarrow_stretch said = boltmarrow_production(GRAMMAR, PIDX(1));
@@ -117,6 +124,13 @@ static const struct {
     {min_sentence_at, "nhhhbnkwwwh"},
     {write_blocks, "nhhhbnb"},
     {read_blocks, "bhhhb"},
+    {house_check, ""},
+    {house_first_fill, "ww"},
+    {house_first, "wnn"},
+    {house_empty, "wn"},
+    {house_cost_fill, "w"},
+    {house_cost, "nw"},
+    {house_row, "wwh"},
 };
 
 static int word(uint32_t *to) { return fread(to, sizeof *to, 1, stdin) == 1; }

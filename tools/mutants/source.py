@@ -1,9 +1,10 @@
-"""The functions of a crate's sources, what they call, and edits of their bodies."""
+"""The functions of a crate's sources, what they call, its tables, and edits of their bodies."""
 import dataclasses
 import pathlib
 import re
 
 HEAD = re.compile(r'^(pub )?(?:extern "C" )?fn (\w+)', re.M)
+TABLE = re.compile(r"^const (\w+): \[\w+; \d+\] = \[\n", re.M)
 USE = re.compile(r"^use ([\w:]+)::(\w+);", re.M)
 CALL = re.compile(r"\b((?:\w+::)*)(\w+)\(")
 KINDS = ("operand", "bound", "branch")
@@ -53,6 +54,17 @@ def functions(crate):
     return found
 
 
+def tables(crate):
+    """The constant tables of the crate folder `crate`, a number a line, by name: each as a function that nothing calls."""
+    found = {}
+    for path in sorted((crate / "src").rglob("*.rt")):
+        text = path.read_text(encoding="utf-8")
+        for head in TABLE.finditer(text):
+            name = f"{crate.name}::{head.group(1)}"
+            found[name] = Function(name, path.relative_to(crate), False, text, head.end(), text.index("];\n", head.end()))
+    return found
+
+
 def calls(function, crates):
     """The full names of what the function's body calls, constructors among them."""
     used = {name: f"{path}::{name}" for path, name in USE.findall(function.text)}
@@ -85,7 +97,7 @@ def read_edits(path, crate):
     edits, function, last = [], None, None
     for line in path.read_text(encoding="utf-8").splitlines():
         key, _, rest = line.partition(": ")
-        if key == "fn":
+        if key in ("fn", "table"):
             function = f"{crate}::{rest}"
         elif key in KINDS:
             number = 1 + sum(e.function == function for e in edits)

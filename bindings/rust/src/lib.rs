@@ -4,7 +4,8 @@
 //! A [`Grammar`] owns its flat tables and is checked once, when it is made. All else borrows it, with tables of the
 //! lengths that it needs. What can still be refused is a number that the grammar does not have, or a sentence that is
 //! not there: a [`Refusal`]. A [`Job`] fills a table in slices, for a program that has a screen to draw meanwhile.
-//! [`Grammar::profile`] tells whether a reader can decide by the next token.
+//! [`Grammar::profile`] tells whether a reader can decide by the next token. [`house`] has the controller's own CSV built
+//! in, for which no grammar is given.
 //!
 //! ```
 //! use boltmarrow::{Grammar, RIdx, TIdx};
@@ -30,6 +31,7 @@ mod costs;
 mod firsts;
 mod follows;
 mod grammar;
+pub mod house;
 mod idx;
 mod jobs;
 mod profile;

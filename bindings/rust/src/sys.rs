@@ -137,27 +137,27 @@ impl Verdict {
     }
 }
 
-/// Declares each call and its safe function. After the grammar the header's parameters come in four groups, each of
-/// which may be empty: numbers; lists that are written; lists that are read; numbers.
+/// Declares each call and its safe function. The header's parameters come in five groups, each of which may be empty:
+/// the grammar; numbers; lists that are written; lists that are read; numbers.
 macro_rules! exports {
     ($($(#[$only:meta])? $call:ident = $name:ident(
-        $($before:ident)*; $($out:ident: $o:ty),*; $($list:ident: $l:ty),*; $($after:ident)*
+        $($g:ident)?; $($before:ident)*; $($out:ident: $o:ty),*; $($list:ident: $l:ty),*; $($after:ident)*
     ) -> $answer:ty;)*) => {
         extern "C" {
             $($(#[$only])? fn $call(
-                rules: u16, owners: *const u16, _: usize, starts: *const u16, _: usize,
-                symbols: *const u16, _: usize, costs: *const u8, _: usize,
+                $($g: u16, owners: *const u16, _: usize, starts: *const u16, _: usize,
+                symbols: *const u16, _: usize, costs: *const u8, _: usize,)?
                 $($before: u16,)* $($out: *mut $o, _: usize,)* $($list: *const $l, _: usize,)* $($after: u16,)*
             ) -> $answer;)*
         }
         $($(#[$only])? pub(crate) fn $name(
-            g: Flat, $($before: u16,)* $($out: &mut [$o],)* $($list: &[$l],)* $($after: u16,)*
+            $($g: Flat,)? $($before: u16,)* $($out: &mut [$o],)* $($list: &[$l],)* $($after: u16,)*
         ) -> $answer {
             // Safe: see the head of this file.
             unsafe {
                 $call(
-                    g.rules, g.owners.as_ptr(), g.owners.len(), g.starts.as_ptr(), g.starts.len(),
-                    g.symbols.as_ptr(), g.symbols.len(), g.costs.as_ptr(), g.costs.len(),
+                    $($g.rules, $g.owners.as_ptr(), $g.owners.len(), $g.starts.as_ptr(), $g.starts.len(),
+                    $g.symbols.as_ptr(), $g.symbols.len(), $g.costs.as_ptr(), $g.costs.len(),)?
                     $($before,)* $($out.as_mut_ptr(), $out.len(),)* $($list.as_ptr(), $list.len(),)* $($after,)*
                 )
             }
@@ -166,32 +166,39 @@ macro_rules! exports {
 }
 
 exports! {
-    boltmarrow_check = check(;;;) -> Answer;
+    boltmarrow_check = check(g;;;;) -> Answer;
     #[cfg(test)]
-    boltmarrow_production = production(prod;;;) -> Stretch;
+    boltmarrow_production = production(g; prod;;;) -> Stretch;
     #[cfg(test)]
-    boltmarrow_mark = mark(;; table: u32; rule token) -> Answer;
+    boltmarrow_mark = mark(g;;; table: u32; rule token) -> Answer;
     #[cfg(test)]
-    boltmarrow_rule_mark = rule_mark(;; table: u32; rule) -> Answer;
-    boltmarrow_first_clear = first_clear(; first: u32, empty: u32;;) -> Answer;
-    boltmarrow_first_visit = first_visit(prod; first: u32, empty: u32;;) -> Answer;
-    boltmarrow_first_fill = first_fill(; first: u32, empty: u32;;) -> Answer;
-    boltmarrow_has_path = has_path(from to;;;) -> Answer;
-    boltmarrow_productive_clear = productive_clear(; productive: u32;;) -> Answer;
-    boltmarrow_productive_visit = productive_visit(prod; productive: u32;;) -> Answer;
-    boltmarrow_productive_fill = productive_fill(; productive: u32;;) -> Answer;
-    boltmarrow_cost_clear = cost_clear(; cost: u32;;) -> Answer;
-    boltmarrow_cost_visit = cost_visit(prod; cost: u32;;) -> Answer;
-    boltmarrow_cost_fill = cost_fill(; cost: u32;;) -> Answer;
-    boltmarrow_min_sentence_cost = min_sentence_cost(rule; cost: u32;;) -> Answer;
-    boltmarrow_reached_fill = reached_fill(; reached: u32;;) -> Answer;
-    boltmarrow_follow_clear = follow_clear(; follow: u32;;) -> Answer;
-    boltmarrow_follow_visit = follow_visit(mode prod; follow: u32; first: u32, empty: u32, reached: u32;) -> Answer;
-    boltmarrow_follow_fill = follow_fill(mode; follow: u32, first: u32, empty: u32, reached: u32;;) -> Answer;
-    boltmarrow_profile = profile(; follow: u32, first: u32, empty: u32, reached: u32;;) -> Verdict;
-    boltmarrow_min_sentence = min_sentence(rule; cost: u32, lengths: u32, out: u16;;) -> Answer;
-    boltmarrow_count_min_sentences = count_min_sentences(rule; cost: u32, lengths: u32, counts: u32;;) -> Answer;
-    boltmarrow_write_blocks = write_blocks(version; out: u8;;) -> Answer;
+    boltmarrow_rule_mark = rule_mark(g;;; table: u32; rule) -> Answer;
+    boltmarrow_first_clear = first_clear(g;; first: u32, empty: u32;;) -> Answer;
+    boltmarrow_first_visit = first_visit(g; prod; first: u32, empty: u32;;) -> Answer;
+    boltmarrow_first_fill = first_fill(g;; first: u32, empty: u32;;) -> Answer;
+    boltmarrow_has_path = has_path(g; from to;;;) -> Answer;
+    boltmarrow_productive_clear = productive_clear(g;; productive: u32;;) -> Answer;
+    boltmarrow_productive_visit = productive_visit(g; prod; productive: u32;;) -> Answer;
+    boltmarrow_productive_fill = productive_fill(g;; productive: u32;;) -> Answer;
+    boltmarrow_cost_clear = cost_clear(g;; cost: u32;;) -> Answer;
+    boltmarrow_cost_visit = cost_visit(g; prod; cost: u32;;) -> Answer;
+    boltmarrow_cost_fill = cost_fill(g;; cost: u32;;) -> Answer;
+    boltmarrow_min_sentence_cost = min_sentence_cost(g; rule; cost: u32;;) -> Answer;
+    boltmarrow_reached_fill = reached_fill(g;; reached: u32;;) -> Answer;
+    boltmarrow_follow_clear = follow_clear(g;; follow: u32;;) -> Answer;
+    boltmarrow_follow_visit = follow_visit(g; mode prod; follow: u32; first: u32, empty: u32, reached: u32;) -> Answer;
+    boltmarrow_follow_fill = follow_fill(g; mode; follow: u32, first: u32, empty: u32, reached: u32;;) -> Answer;
+    boltmarrow_profile = profile(g;; follow: u32, first: u32, empty: u32, reached: u32;;) -> Verdict;
+    boltmarrow_min_sentence = min_sentence(g; rule; cost: u32, lengths: u32, out: u16;;) -> Answer;
+    boltmarrow_count_min_sentences = count_min_sentences(g; rule; cost: u32, lengths: u32, counts: u32;;) -> Answer;
+    boltmarrow_write_blocks = write_blocks(g; version; out: u8;;) -> Answer;
+    boltmarrow_house_check = house_check(;;;;) -> Answer;
+    boltmarrow_house_first_fill = house_first_fill(;; first: u32, empty: u32;;) -> Answer;
+    boltmarrow_house_first = house_first(;;; first: u32; rule token) -> Answer;
+    boltmarrow_house_empty = house_empty(;;; empty: u32; rule) -> Answer;
+    boltmarrow_house_cost_fill = house_cost_fill(;; cost: u32;;) -> Answer;
+    boltmarrow_house_cost = house_cost(; rule; cost: u32;;) -> Answer;
+    boltmarrow_house_row = house_row(;; cost: u32, lengths: u32, out: u16;;) -> Answer;
 }
 
 extern "C" {

@@ -4,7 +4,9 @@ use mathlib.Core.List.{List, [], _∷_}
 use mathlib.Core.Logic.{inl, inr}
 use mathlib.Core.Path.{_≡_, refl, sym, subst}
 use Prim.Native.Nat.{ℕ, suc, _≤_}
+use native.Mathlib.Decide.{decLt}
 use native.Mathlib.Omega.{arith}
+use lib.ListN.{length}
 use Rattle.theory.specs.Profile.{Verdict as Judgement, passes, clashes}
 use Rattle.grammar.specs.Flat.{Flat}
 use Rattle.grammar.specs.Outcome.{Outcome, answers, refused, unless, lowest}
@@ -23,6 +25,9 @@ use Rattle.listings.proofs.Exactly.{counts-said, numbers-said}
 use Rattle.blocks.specs.Reading.{Lists, Reads}
 use Rattle.follows.specs.Lent.{Lent}
 use Rattle.profiles.specs.Calls.{Judges}
+use Rattle.house.specs.Calls as House
+use Rattle.house.specs.Calls.{Prices}
+use Rattle.house.specs.Table.{cheapestRow}
 use Rattle.boltmarrow.specs.Exports.{answerOf, verdictOf}
 
 -- a refusal's number is 1 or more
@@ -69,6 +74,15 @@ priced-numbered g r x = elim (kinds g r (x .cost)) [
   | inl h ↦ refusing 12 (x .none h) (omega arith)
   | inr (inl h) ↦ refusing 13 (x .dear (h .0) (h .1)) (omega arith)
   | inr (inr h) ↦ answered (h .0) (x .is (h .0) (h .1) (h .2))
+]
+
+pub prices-numbered : {r : ℕ} {s : Outcome ℕ} {a : List ℕ} → Prices r s a → Numbered s
+prices-numbered x = answered (x .least) (x .answer)
+
+pub row-numbered : {out : List ℕ} {s : Outcome ℕ} {a : Lends} → House.Written out s a → Numbered s
+row-numbered {out} x = elim (decLt (length out) (length cheapestRow)) [
+  | yes l ↦ refusing 15 (x .short l .number) (omega arith)
+  | no l ↦ let le : length cheapestRow ≤ length out = omega arith in answered (length cheapestRow) (x .is le .number)
 ]
 
 pub sentenced-numbered : (g : Flat) (r : ℕ) (out : List ℕ) {s : Outcome ℕ} {a : Lends} → Sentenced g r out s a → Numbered s

@@ -466,3 +466,77 @@ fn a_record_is_taken_at_its_word() {
     assert_eq!(sliced(&mut job, G1, 9, &mut words), Ok(1));
     assert_eq!((job, words), (Job { done: 1, ..Job::new(0) }, LENGTHS.map(|len| vec![0; len])));
 }
+
+/// FIRST, EMPTY, COST and the lengths in other lengths than the house has them in; 7 comes before 9, 10 and 15.
+#[test]
+fn seven_for_the_tables_of_the_house() {
+    for len in [0, 1, 3, 57, 59] {
+        let (mut wrong, mut right, mut empty) = (vec![9; len], [9; 58], [9; 2]);
+        assert_eq!(refused(house_first_fill(&mut wrong, &mut empty)), 7, "length {len}");
+        assert_eq!(refused(house_first_fill(&mut right, &mut wrong)), 7, "length {len}");
+        assert_eq!(refused(house_cost_fill(&mut wrong)), 7, "length {len}");
+        for (rule, token) in [(0, 0), (58, 0), (0, 8), (65535, 65535)] {
+            assert_eq!(refused(house_first(&wrong, rule, token)), 7, "length {len}");
+            assert_eq!(refused(house_empty(&wrong, rule)), 7, "length {len}");
+            assert_eq!(refused(house_cost(rule, &mut wrong)), 7, "length {len}");
+        }
+        for room in [0, 45, 46] {
+            let mut out = vec![9; room];
+            assert_eq!(refused(house_row(&mut wrong, &mut right, &mut out)), 7, "length {len}");
+            assert_eq!(refused(house_row(&mut right, &mut wrong, &mut out)), 7, "length {len}");
+            assert_eq!(out, vec![9; room]);
+        }
+        assert_eq!((wrong, right, empty), (vec![9; len], [9; 58], [9; 2]));
+    }
+}
+
+/// COST of the house, by hand; each of its tokens but eof costs 1, so these are the lengths too.
+fn house_costs() -> Vec<u32> {
+    [&[46; 2][..], &[3; 12], &[0; 36], &[9, 5, 3, 1, 1, 1, 0, 0]].concat()
+}
+
+/// FIRST and EMPTY by hand, whatever the tables held. Tokens 0 digits, 1 decimal-comma, 2 semicolon, 3 minus.
+#[test]
+fn the_words_of_the_house() {
+    assert_eq!(house_check().number(), Ok(0));
+    for word in [0, 9, u32::MAX] {
+        let (mut first, mut empty, mut cost) = ([word; 58], [word; 2], [word; 58]);
+        assert_eq!(house_first_fill(&mut first, &mut empty).number(), Ok(0));
+        let values = [0b1001, 0b0001, 0b0001].repeat(12);
+        let made_of = [0b0001, 0b0001, 0b0001, 0b1001, 0b0001, 0b0001, 0b1000, 0b0010];
+        assert_eq!(first[..], [&[0b0001; 2][..], &[0b0100; 12], &values, &made_of].concat());
+        // rules 14 to 49, 56 and 57
+        assert_eq!(empty, [0xFFFF_C000, 0x0303_FFFF]);
+        assert_eq!(house_cost_fill(&mut cost).number(), Ok(0));
+        assert_eq!(cost[..], house_costs());
+    }
+}
+
+/// The least cost fills COST; 9 leaves it as found.
+#[test]
+fn the_cost_of_a_rule_of_the_house() {
+    for (rule, cost) in (0..).zip(house_costs()) {
+        let mut table = [9; 58];
+        assert_eq!(house_cost(rule, &mut table).number(), Ok(cost), "rule {rule}");
+        assert_eq!(table[..], house_costs());
+    }
+    for rule in [58, 59, 32768, 65535] {
+        let mut table = [9; 58];
+        assert_eq!(refused(house_cost(rule, &mut table)), 9, "rule {rule}");
+        assert_eq!(table, [9; 58]);
+    }
+}
+
+/// Both tables are whole, with 15 too, which leaves the room as found; behind the row it is as found in any case.
+#[test]
+fn room_for_the_row_of_the_house() {
+    let row = [&[0, 4, 0, 4, 0, 2, 0, 5, 0][..], &[2; 36], &[6]].concat();
+    for room in [0, 1, 45, 46, 47, 100] {
+        let (mut cost, mut lengths, mut out) = ([9; 58], [9; 58], vec![9; room]);
+        let said = house_row(&mut cost, &mut lengths, &mut out).number().map_err(Refusal::number);
+        let (answer, written) = if room < 46 { (Err(15), &[][..]) } else { (Ok(46), &row[..]) };
+        assert_eq!(said, answer, "room {room}");
+        assert_eq!((&cost[..], &lengths[..]), (&house_costs()[..], &house_costs()[..]));
+        assert_eq!(out, [written, &vec![9; room - written.len()]].concat(), "room {room}");
+    }
+}

@@ -3,6 +3,7 @@
 mod differences;
 mod files;
 mod grammars;
+mod house;
 mod jobs;
 mod profile;
 mod refusals;

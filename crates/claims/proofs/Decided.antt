@@ -4,15 +4,16 @@ use mathlib.Core.List.{List, [], _∷_, List·Memᴰ, List·Memᴰ·head, List·
 use mathlib.Core.Logic.{inl, inr, _↔_}
 use mathlib.Core.Option.{Option, none, some}
 use mathlib.Core.Path.{_≡_, refl, sym, ap, ap₂, _∙_, subst}
-use Prim.Native.Nat.{ℕ, zero, suc, _*_, _≤_, _<_}
+use Prim.Native.Nat.{ℕ, zero, suc, _+_, _*_, _≤_, _<_}
 use native.Mathlib.Nat.{eq-or-lt-of-le, le-of-suc-le-suc, not-suc-le-zero}
 use native.Mathlib.Omega.{arith}
 use lib.Dec.{eqb, leb}
 use lib.ListN.{length, length-replicate}
 use borrow.Author.Tests.{eqb-true, leb-true, eq-eqb, not-true}
+use Rattle.theory.specs.Dearer.{occurs}
 use Rattle.theory.specs.Definitions.{Cost}
 use Rattle.theory.specs.Grammar.{rul, Grammar}
-use Rattle.theory.specs.Levels.{Chosen, within}
+use Rattle.theory.specs.Levels.{Chosen, within, expanded}
 use Rattle.theory.specs.Search.{Chain, one, link}
 use Rattle.theory.specs.Profile.{Verdict, passes, clashes, Judged}
 use Rattle.theory.specs.Sentences.{Expands}
@@ -22,6 +23,8 @@ use Rattle.theory.specs.Tables.{Proper, FirstExact, ReachedExact, FollowExact, 
 use Rattle.theory.proofs.Bools.{and-split, or-split, or-left, or-right, same, same-is}
 use Rattle.theory.proofs.Choices.{choices-chosen}
 use Rattle.theory.proofs.CostRounds.{cost-any-order}
+use Rattle.theory.proofs.Dearer.{dearer}
+use Rattle.theory.proofs.Sentences.{sentence-of}
 use Rattle.theory.proofs.First.{first-any-order}
 use Rattle.theory.proofs.Follow.{follow-any-order}
 use Rattle.theory.proofs.Levels.{grounded-levels, within-expands}
@@ -40,7 +43,7 @@ use Rattle.grammar.specs.Production.{checkOf}
 use Rattle.grammar.specs.Well.{WellFormed}
 use Rattle.grammar.proofs.Denoted.{proper}
 use Rattle.grammar.proofs.Well.{well}
-use Rattle.claims.specs.Claims.{Claim, firstIs, followIs, marksAre, costIs, noSentence, circular, sentenceIs, path, noPath, reachedAre, standsAre, judged, sourceNever, sourceGives, grammarOf, Says, Means, AllMean}
+use Rattle.claims.specs.Claims.{Claim, firstIs, followIs, marksAre, costIs, noSentence, circular, sentenceIs, path, noPath, reachedAre, standsAre, dearerUpto, judged, sourceNever, sourceGives, grammarOf, Says, Means, AllMean}
 use Rattle.claims.proofs.Tests.{isAnswer, many, firstFilled, reachedFilled, followFilled, productiveFilled, costFilled, chosen, holds, sameList, sameVerdict, agree, uses, leads, unused, never, costsGiven, sentenceGiven, so, looked, test, tests}
 
 -- lookups
@@ -172,6 +175,14 @@ says (path g a by b) ok e = path-chain .1 (leads-is (denoted g) a by b e)
 says (noPath g a b) ok e = λ p. unused-chain (denoted g) b e (path-chain .0 p)
 says (reachedAre g rs) ok e = λ r l. set-is _ r rs (reached-right (denoted g) ok r) (agree-at (g .rules) _ rs e r l)
 says (standsAre g r ts) ok e = λ t l. set-is _ t ts (exact-stands (denoted g) (followFilled (denoted g)) (follow-right (denoted g) ok) r t) (agree-at (length (g .costs)) _ ts e t l)
+says (dearerUpto g t d r n) ok e =
+    let s = and-split (leb (costFilled (denoted g) (price g) r) 65535 && within (denoted g) (chosen (denoted g) (price g)) (g .rules) r) _ e in
+    let v = and-split (leb (costFilled (denoted g) (price g) r) 65535) _ (s .0) in
+    let q = and-split (leb n 65535) _ (s .1) in
+    let i = sentence-of (within-expands (denoted g) (price g) (costFilled (denoted g) (price g)) ok (chosen (denoted g) (price g)) (picks (denoted g) ok (price g)) (g .rules) r (v .1)) in
+    let w = expanded (denoted g) (chosen (denoted g) (price g)) (g .rules) r in
+    let b : costFilled (denoted g) (price g) r + d * occurs t w ≡ n = eqb-true _ n (q .1) in
+    λ k h c y. subst (λ z. c ≤ z) b (dearer h (cost-right (denoted g) ok (price g) r) y .upto w (i .0) (i .1) (subst (λ z. z ≤ 65535) (sym b) (leb-true n 65535 (q .0))))
 says (judged g v) ok e = subst (λ z. Judged (denoted g) z) (verdict-same _ v e) (verdict-judged (denoted g) ok (firstFilled (denoted g)) (first-right (denoted g) ok) (followFilled (denoted g)) (follow-right (denoted g) ok))
 says (sourceNever g) ok e = λ c x. stuck-never (denoted g) (price g) 32 start (so-some (never g) _ e .1) x
 says (sourceGives g r n w) ok e =

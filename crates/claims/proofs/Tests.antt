@@ -2,9 +2,10 @@
 use mathlib.Core.Bool.{Bool, true, false, not, _&&_, _||_}
 use mathlib.Core.List.{List, [], _∷_}
 use mathlib.Core.Option.{Option, none, some}
-use Prim.Native.Nat.{ℕ, zero, suc, _*_}
+use Prim.Native.Nat.{ℕ, zero, suc, _+_, _*_}
 use lib.Dec.{eqb, leb}
 use lib.ListN.{length, replicate}
+use Rattle.theory.specs.Dearer.{occurs}
 use Rattle.theory.specs.Clashes.{verdictBy}
 use Rattle.theory.specs.Grammar.{Grammar}
 use Rattle.theory.specs.Levels.{Choices, choicesBelow, within, expanded}
@@ -18,7 +19,7 @@ use Rattle.source.proofs.Running.{stuckIn, costsIn, sentenceIn}
 use Rattle.grammar.specs.Flat.{Flat, denoted, price}
 use Rattle.grammar.specs.Outcome.{Outcome, answers, refused}
 use Rattle.grammar.specs.Production.{checkOf}
-use Rattle.claims.specs.Claims.{Claim, firstIs, followIs, marksAre, costIs, noSentence, circular, sentenceIs, path, noPath, reachedAre, standsAre, judged, sourceNever, sourceGives, grammarOf}
+use Rattle.claims.specs.Claims.{Claim, firstIs, followIs, marksAre, costIs, noSentence, circular, sentenceIs, path, noPath, reachedAre, standsAre, dearerUpto, judged, sourceNever, sourceGives, grammarOf}
 
 abbrev pub isAnswer : {A : Type 0} → Outcome A → Bool
 isAnswer (answers x) = true
@@ -109,6 +110,7 @@ looked (path g a by b) = leads (denoted g) a by b
 looked (noPath g a b) = unused (denoted g) (denoted g .prods) b
 looked (reachedAre g rs) = agree (g .rules) (reachedFilled (denoted g)) rs
 looked (standsAre g r ts) = agree (length (g .costs)) (λ t. followFilled (denoted g) r t) ts
+looked (dearerUpto g t d r n) = (leb (costFilled (denoted g) (price g) r) 65535 && within (denoted g) (chosen (denoted g) (price g)) (g .rules) r) && (leb n 65535 && eqb (costFilled (denoted g) (price g) r + d * occurs t (expanded (denoted g) (chosen (denoted g) (price g)) (g .rules) r)) n)
 looked (judged g v) = sameVerdict (verdictBy (denoted g) (firstFilled (denoted g)) (followFilled (denoted g))) v
 looked (sourceNever g) = so (never g) (λ u. true)
 looked (sourceGives g r n w) = so (costsGiven g) (λ c. eqb (c r) n && so (sentenceGiven g c r) (λ v. sameList v w))

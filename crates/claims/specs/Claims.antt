@@ -7,6 +7,7 @@ use Prim.Native.Nat.{ℕ, _≤_, _<_}
 use lib.ListN.{length}
 use Rattle.theory.specs.Entries.{costMax}
 use Rattle.theory.specs.Definitions.{First, Productive, Cost, Path, Reached}
+use Rattle.theory.specs.Dearer.{GoesUp}
 use Rattle.theory.specs.Follow.{Follow, Stands}
 use Rattle.theory.specs.Grammar.{rul}
 use Rattle.theory.specs.Profile.{Verdict, passes, clashes, Judged}
@@ -18,7 +19,7 @@ use Rattle.source.specs.Costs.{start, Returns}
 use Rattle.source.specs.Sentence as Sentence
 use Rattle.grammar.specs.Flat.{Flat, denoted, price}
 use Rattle.grammar.specs.Well.{WellFormed}
-use Rattle.claims.specs.Grammars.{g1, g2, g3, g4, g6, dead, exports, vanishing, several, crossed}
+use Rattle.claims.specs.Grammars.{g1, g2, g3, g4, g6, dead, exports, vanishing, several, crossed, pricey, pricier}
 
 -- a set is given by its tokens; `by` names the rules between, as a hint to the test
 pub data Claim : Type 0 where
@@ -33,6 +34,7 @@ pub data Claim : Type 0 where
   noPath : Flat → (a b : ℕ) → Claim
   reachedAre : Flat → (rules : List ℕ) → Claim
   standsAre : Flat → (r : ℕ) → (tokens : List ℕ) → Claim
+  dearerUpto : Flat → (t d r n : ℕ) → Claim
   judged : Flat → Verdict → Claim
   sourceNever : Flat → Claim
   sourceGives : Flat → (r n : ℕ) → (w : List ℕ) → Claim
@@ -50,6 +52,7 @@ grammarOf (path g a by b) = g
 grammarOf (noPath g a b) = g
 grammarOf (reachedAre g rs) = g
 grammarOf (standsAre g r ts) = g
+grammarOf (dearerUpto g t d r n) = g
 grammarOf (judged g v) = g
 grammarOf (sourceNever g) = g
 grammarOf (sourceGives g r n w) = g
@@ -77,6 +80,8 @@ Says (noPath g a b) = Path (denoted g) a b → ⊥
 Says (reachedAre g rs) = (r : ℕ) → r < g .rules → Reached (denoted g) r ↔ List·Memᴰ r rs
 -- the tokens t for which r t stands in a form derived from `start eof` are these
 Says (standsAre g r ts) = (t : ℕ) → t < length (g .costs) → Stands (denoted g) r t ↔ List·Memᴰ t ts
+-- where token t costs d more, COST(r) is at most n: what d times its occurrences in the rule's sentence add
+Says (dearerUpto g t d r n) = (k : ℕ → ℕ) → GoesUp (price g) t d k → (c : ℕ) → Cost (denoted g) k r c → c ≤ n
 -- the profile's verdict
 Says (judged g v) = Judged (denoted g) v
 -- the Rust's `rule_min_costs` never returns
@@ -118,7 +123,7 @@ starred =
 abbrev pub repeats : List Claim
 repeats = sourceGives g1 0 1 (0 ∷ 0 ∷ []) ∷ []
 
--- of the change requests: L2, z does not stand after A; L7, both exports are followed by eof, and the start has the cheaper one's sentence; L8, who passes, and the least clash: T where two vanish and share none, FOLLOW of the owner added, productions 0 and 5 before 1 and 2
+-- of the change requests: L2, z does not stand after A; L7, both exports are followed by eof, and the start has the cheaper one's sentence; L12, a cost that rises by the whole bound, and one that rises by less; L8, who passes, and the least clash: T where two vanish and share none, FOLLOW of the owner added, productions 0 and 5 before 1 and 2
 abbrev pub requested : List Claim
 requested =
     reachedAre dead (0 ∷ 1 ∷ 2 ∷ [])
@@ -135,6 +140,12 @@ requested =
     ∷ costIs exports 2 2
     ∷ sentenceIs exports 0 (0 ∷ [])
     ∷ path exports 0 [] 2
+    ∷ costIs pricey 1 761
+    ∷ costIs pricier 1 763
+    ∷ dearerUpto pricey 0 1 1 763
+    ∷ costIs pricey 2 762
+    ∷ costIs pricier 2 763
+    ∷ dearerUpto pricey 0 1 2 765
     ∷ judged g1 passes
     ∷ judged g2 passes
     ∷ judged g3 (clashes 1 1 2 0)

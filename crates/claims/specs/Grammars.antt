@@ -41,3 +41,11 @@ several = flat 5 (0 ∷ 1 ∷ 2 ∷ 2 ∷ 2 ∷ 4 ∷ 3 ∷ []) (0 ∷ 1 ∷ 3 �
 -- A: a; A: b; A: b; A: c; A: d; A: a. Tokens 0 a, 1 b, 2 c, 3 d
 abbrev pub crossed : Flat
 crossed = flat 2 (1 ∷ 1 ∷ 1 ∷ 1 ∷ 1 ∷ 1 ∷ 0 ∷ []) (0 ∷ 1 ∷ 2 ∷ 3 ∷ 4 ∷ 5 ∷ 6 ∷ 7 ∷ []) (0 ∷ 1 ∷ 1 ∷ 2 ∷ 3 ∷ 0 ∷ 32769 ∷ []) (1 ∷ 1 ∷ 1 ∷ 1 ∷ 1 ∷ [])
+
+-- request L12's. A: a a b; B: a a a; B: c c b. Rules 1 A, 2 B; tokens 0 a of cost 254, 1 b of 253, 2 c of 255
+abbrev pub pricey : Flat
+pricey = flat 3 (0 ∷ 1 ∷ 2 ∷ 2 ∷ []) (0 ∷ 1 ∷ 4 ∷ 7 ∷ 10 ∷ []) (32769 ∷ 0 ∷ 0 ∷ 1 ∷ 0 ∷ 0 ∷ 0 ∷ 2 ∷ 2 ∷ 1 ∷ []) (254 ∷ 253 ∷ 255 ∷ 0 ∷ [])
+
+-- the same with a one dearer
+abbrev pub pricier : Flat
+pricier = flat 3 (0 ∷ 1 ∷ 2 ∷ 2 ∷ []) (0 ∷ 1 ∷ 4 ∷ 7 ∷ 10 ∷ []) (32769 ∷ 0 ∷ 0 ∷ 1 ∷ 0 ∷ 0 ∷ 0 ∷ 2 ∷ 2 ∷ 1 ∷ []) (255 ∷ 253 ∷ 255 ∷ 0 ∷ [])

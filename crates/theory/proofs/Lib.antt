@@ -31,3 +31,4 @@ pub mod AllListed
 pub mod Odometer
 pub mod Numbers
 pub mod ListingExamples
+pub mod Dearer

@@ -25,8 +25,7 @@ use Rattle.listings.proofs.Exactly.{counts-said, numbers-said}
 use Rattle.blocks.specs.Reading.{Lists, Reads}
 use Rattle.follows.specs.Lent.{Lent}
 use Rattle.profiles.specs.Calls.{Judges}
-use Rattle.house.specs.Calls as House
-use Rattle.house.specs.Calls.{Prices}
+use Rattle.house.specs.Calls.{Prices, RowWritten}
 use Rattle.house.specs.Table.{cheapestRow}
 use Rattle.boltmarrow.specs.Exports.{answerOf, verdictOf}
 
@@ -79,7 +78,7 @@ priced-numbered g r x = elim (kinds g r (x .cost)) [
 pub prices-numbered : {r : ℕ} {s : Outcome ℕ} {a : List ℕ} → Prices r s a → Numbered s
 prices-numbered x = answered (x .least) (x .answer)
 
-pub row-numbered : {out : List ℕ} {s : Outcome ℕ} {a : Lends} → House.Written out s a → Numbered s
+pub row-numbered : {out : List ℕ} {s : Outcome ℕ} {a : Lends} → RowWritten out s a → Numbered s
 row-numbered {out} x = elim (decLt (length out) (length cheapestRow)) [
   | yes l ↦ refusing 15 (x .short l .number) (omega arith)
   | no l ↦ let le : length cheapestRow ≤ length out = omega arith in answered (length cheapestRow) (x .is le .number)

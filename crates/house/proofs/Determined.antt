@@ -13,7 +13,7 @@ use Rattle.grammar.proofs.Determined.{checked-one}
 use Rattle.tables.specs.declared.Asked.{Asked}
 use Rattle.tables.specs.declared.Filled.{Filled}
 use Rattle.tables.specs.Answers.{askedIs}
-use Rattle.tables.proofs.Calls.{Both, call-one, leaves-one, asked-one, filled-one}
+use Rattle.tables.proofs.Calls.{Both, Alike, call-one, leaves-one, asked-one, filled-one}
 use Rattle.firsts.specs.Lent.{lent}
 use Rattle.firsts.proofs.Determined.{defined-one}
 use Rattle.costs.specs.Lent.{costsOf}
@@ -24,17 +24,12 @@ use Rattle.sentences.specs.Query.{Lends, lends}
 use Rattle.sentences.specs.declared.Length.{Length as LengthAnswer}
 use Rattle.sentences.proofs.Determined.{lengths-defined-one, length-answer-one}
 use Rattle.house.specs.Table.{house, cheapestRow}
-use Rattle.house.specs.Calls.{firstDue, FillFirst, isFirstOf, isEmptyOf, FillCost, costDue, Prices, MinCost, rowDue, Written, CheapestRow}
-
--- two results of a call: the answers and what was lent are equal
-pub record Same (A M : Type 0) (r s : A) (a b : M) : Type 0 where
-  pub answer : r ≡ s
-  pub left : a ≡ b
+use Rattle.house.specs.Calls.{firstDue, FillFirst, isFirstOf, isEmptyOf, FillCost, costDue, Prices, MinCost, rowDue, RowWritten, CheapestRow}
 
 pub check-one : {a b : Checked} → checkedIs a ≡ answers tt → checkedIs b ≡ answers tt → a ≡ b
 check-one e h = checked-one (e ∙ sym h)
 
-pub fill-first-one : (first empty : List ℕ) {r s : Filled} {f e f′ e′ : List ℕ} → FillFirst first empty r f e → FillFirst first empty s f′ e′ → Same _ _ r s (lent f e) (lent f′ e′)
+pub fill-first-one : (first empty : List ℕ) {r s : Filled} {f e f′ e′ : List ℕ} → FillFirst first empty r f e → FillFirst first empty s f′ e′ → Alike r s (lent f e) (lent f′ e′)
 fill-first-one first empty {r} {s} x y = let o = call-one (leaves-one (defined-one house)) (firstDue (lent first empty)) x y in record { answer = filled-one r s (o .said); left = o .left }
 
 pub is-first-one : (first : List ℕ) (rule token : ℕ) {a b : Asked} → askedIs a ≡ isFirstOf first rule token → askedIs b ≡ isFirstOf first rule token → a ≡ b
@@ -43,16 +38,16 @@ is-first-one first rule token {a} {b} x y = asked-one a b (x ∙ sym y)
 pub is-empty-one : (empty : List ℕ) (rule : ℕ) {a b : Asked} → askedIs a ≡ isEmptyOf empty rule → askedIs b ≡ isEmptyOf empty rule → a ≡ b
 is-empty-one empty rule {a} {b} x y = asked-one a b (x ∙ sym y)
 
-pub fill-cost-one : (cost : List ℕ) {r s : Filled} {a b : List ℕ} → FillCost cost r a → FillCost cost s b → Same _ _ r s a b
+pub fill-cost-one : (cost : List ℕ) {r s : Filled} {a b : List ℕ} → FillCost cost r a → FillCost cost s b → Alike r s a b
 fill-cost-one cost {r} {s} x y = let o = call-one (leaves-one (cost-defined-one house)) _ x y in record { answer = filled-one r s (o .said); left = o .left }
 
 prices-one : (r : ℕ) (s t : Outcome ℕ) (a b : List ℕ) → Prices r s a → Prices r t b → Both s t a b
 prices-one r s t a b x y = record { said = x .answer ∙ ap answers (cost-one (x .is) (y .is)) ∙ sym (y .answer); left = cost-defined-one house a b (x .cost) (y .cost) }
 
-pub min-cost-one : (rule : ℕ) (cost : List ℕ) {r s : CostAnswer} {a b : List ℕ} → MinCost rule cost r a → MinCost rule cost s b → Same _ _ r s a b
+pub min-cost-one : (rule : ℕ) (cost : List ℕ) {r s : CostAnswer} {a b : List ℕ} → MinCost rule cost r a → MinCost rule cost s b → Alike r s a b
 min-cost-one rule cost {r} {s} x y = let o = call-one (prices-one rule) (costDue rule cost) x y in record { answer = cost-answer-one r s (o .said); left = o .left }
 
-written-one : (out : List ℕ) (s t : Outcome ℕ) (a b : Lends) → Written out s a → Written out t b → Both s t a b
+written-one : (out : List ℕ) (s t : Outcome ℕ) (a b : Lends) → RowWritten out s a → RowWritten out t b → Both s t a b
 written-one out s t a b x y =
     let c = cost-defined-one house (a .cost) (b .cost) (x .cost) (y .cost) in
     let l = lengths-defined-one house (a .lengths) (b .lengths) (x .lengths) (subst (λ u. LengthsDefined house (costsOf u) (b .lengths)) (sym c) (y .lengths)) in
@@ -64,5 +59,5 @@ written-one out s t a b x y =
           record { said = x .is le .number ∙ sym (y .is le .number); left = tables (a .out) ∙ ap (lends (b .cost) (b .lengths)) (x .is le .tokens ∙ sym (y .is le .tokens)) }
     ]
 
-pub cheapest-row-one : (cost lengths out : List ℕ) {r s : LengthAnswer} {c l o c′ l′ o′ : List ℕ} → CheapestRow cost lengths out r c l o → CheapestRow cost lengths out s c′ l′ o′ → Same _ _ r s (lends c l o) (lends c′ l′ o′)
+pub cheapest-row-one : (cost lengths out : List ℕ) {r s : LengthAnswer} {c l o c′ l′ o′ : List ℕ} → CheapestRow cost lengths out r c l o → CheapestRow cost lengths out s c′ l′ o′ → Alike r s (lends c l o) (lends c′ l′ o′)
 cheapest-row-one cost lengths out {r} {s} x y = let o = call-one (written-one out) (rowDue (lends cost lengths out)) x y in record { answer = length-answer-one r s (o .said); left = o .left }

@@ -67,14 +67,14 @@ abbrev pub rowDue : Lends → Outcome (Unit {0})
 rowDue m = unless (numbersWrong (house .rules) (m .cost) || numbersWrong (house .rules) (m .lengths)) 7 (answers tt)
 
 -- the working tables hold their final values, and the row stands at the front of the output if there is room for it
-pub record Written (out : List ℕ) (said : Outcome ℕ) (after : Lends) : Type 0 where
+pub record RowWritten (out : List ℕ) (said : Outcome ℕ) (after : Lends) : Type 0 where
   pub cost : CostDefined house (after .cost)
   pub lengths : LengthsDefined house (costsOf (after .cost)) (after .lengths)
   pub short : length out < length cheapestRow → Refuses 15 out said (after .out)
   pub is : length cheapestRow ≤ length out → Writes cheapestRow out said (after .out)
 
 abbrev pub CheapestRow : (cost lengths out : List ℕ) → LengthAnswer → (cost′ lengths′ out′ : List ℕ) → Type 0
-CheapestRow cost lengths out a cost′ lengths′ out′ = Call (rowDue (lends cost lengths out)) (Written out) (lends cost lengths out) (lengthIs a) (lends cost′ lengths′ out′)
+CheapestRow cost lengths out a cost′ lengths′ out′ = Call (rowDue (lends cost lengths out)) (RowWritten out) (lends cost lengths out) (lengthIs a) (lends cost′ lengths′ out′)
 
 -- an answer, or a refusal by one of these numbers
 pub data Gives {A : Type 0} (ns : List ℕ) : Outcome A → Type 0 where

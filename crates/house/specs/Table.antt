@@ -82,9 +82,11 @@ pub record Production : Type 0 where
   pub owner : ℕ
   pub body : List ℕ
 
+-- the owner is these symbols
 abbrev pub is : ℕ → List ℕ → Production
 is owner body = record { owner = owner; body = body }
 
+-- the twelve rooms, from 0
 abbrev pub twelve : List ℕ
 twelve = 0 ∷ 1 ∷ 2 ∷ 3 ∷ 4 ∷ 5 ∷ 6 ∷ 7 ∷ 8 ∷ 9 ∷ 10 ∷ 11 ∷ []
 
@@ -118,6 +120,7 @@ madeOf =
     ∷ is fraction []
     ∷ []
 
+-- lists one behind the other
 abbrev pub joined : {A : Type 0} → List (List A) → List A
 joined [] = []
 joined (a ∷ rest) = a ++ joined rest

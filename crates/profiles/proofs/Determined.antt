@@ -6,10 +6,10 @@ use Rattle.theory.specs.Profile.{Verdict, passes, clashes}
 use Rattle.theory.proofs.Profile.{judged-one}
 use Rattle.grammar.specs.Flat.{Flat, denoted}
 use Rattle.grammar.specs.Outcome.{Outcome, answers, refused}
-use Rattle.tables.proofs.Calls.{Both, call-one, told-apart}
+use Rattle.tables.proofs.Calls.{Both, Alike, call-one, told-apart}
 use Rattle.firsts.specs.Lent.{lent as firsts}
 use Rattle.follows.specs.Lent.{Lent, lent, reads}
-use Rattle.follows.proofs.Determined.{Same, tables-one}
+use Rattle.follows.proofs.Determined.{tables-one}
 use Rattle.profiles.specs.declared.Verdict.{Verdict as Answer}
 use Rattle.profiles.specs.declared.Verdict.the-variants.{Passes, Clashes, Refused}
 use Rattle.profiles.specs.Calls.{verdictIs, profileDue, Judges, Profile}
@@ -33,7 +33,7 @@ verdict-one = told-apart verdictIs back same
     same (Clashes c) = refl
     same (Refused n) = refl
 
-pub profile-one : (g : Flat) (follow first empty reached : List ℕ) {r s : Answer} {o f e u o′ f′ e′ u′ : List ℕ} → Profile g follow first empty reached r o f e u → Profile g follow first empty reached s o′ f′ e′ u′ → Same r s (lent o (reads (firsts f e) u)) (lent o′ (reads (firsts f′ e′) u′))
+pub profile-one : (g : Flat) (follow first empty reached : List ℕ) {r s : Answer} {o f e u o′ f′ e′ u′ : List ℕ} → Profile g follow first empty reached r o f e u → Profile g follow first empty reached s o′ f′ e′ u′ → Alike r s (lent o (reads (firsts f e) u)) (lent o′ (reads (firsts f′ e′) u′))
 profile-one g follow first empty reached {r} {s} x y =
     let z = call-one (judges-one g) (profileDue g (lent follow (reads (firsts first empty) reached))) x y in
-    record { answer = verdict-one r s (z .said); words = z .left }
+    record { answer = verdict-one r s (z .said); left = z .left }

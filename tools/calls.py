@@ -1,4 +1,4 @@
-"""The 33 calls of bindings/include/boltmarrow.h once more, in plain Python, on arbitrary lists and numbers. They are
+"""The 34 calls of bindings/include/boltmarrow.h once more, in plain Python, on arbitrary lists and numbers. They are
 written from documents 01 and 02, over the definitions and visits of plain.py: here are the tables as words, their
 lengths and the calls' own refusals. A block file is written by bin/blocks. A house call is the call below it on the
 grammar that examples/house.txt says. A call changes the lists that it is lent, and returns its values or raises
@@ -179,6 +179,12 @@ def min_sentence_cost(g, rule, cost):
     need(g, [(cost, cost_length)], rules=[rule])
     cost_fill(g, cost)
     return [plain.sentence_cost(g, rule)]
+
+
+def dearest_fill(g, dearest):
+    need(g, [(dearest, cost_length)])
+    dearest[:] = plain.dearest(g)
+    return [0]
 
 
 def reached_fill(g, reached):
@@ -363,6 +369,7 @@ CALLS = {
     "cost_visit": Call("prod entries", (7, 11), 1, cost_visit),
     "cost_fill": Call("entries", (7,), 1, cost_fill),
     "min_sentence_cost": Call("rule entries", (7, 9, 12, 13), 1, min_sentence_cost),
+    "dearest_fill": Call("entries", (7,), 1, dearest_fill),
     "reached_fill": Call("reached", (7,), 1, reached_fill),
     "follow_clear": Call("marks", (7,), 1, follow_clear),
     "follow_visit": Call("mode prod marks marks row reached", (7, 8, 11), 1, follow_visit),

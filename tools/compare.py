@@ -16,9 +16,15 @@ a reason, it is asked again with more time, which is counted. What we answer the
 reached rules must be rule 0 and those to which the Rust has a path from it. FOLLOW must be what the documents say, and
 the Rust's what its own rule gives: over all productions, with the next symbol alone read. Ours must hold what that rule
 gives over the productions of reached rules, so that a mark which it lacks comes from another rule. The profile, which
-the Rust has not, must be what the documents say. Each kind is counted, and each kind of difference shown with the
-smallest grammar that has it; where FOLLOW of a grammar with a name differs, a line says so by the names of its text.
-The program exits with 1 if a difference is not explained.
+the Rust has not, must be what the documents say.
+
+The greatest costs must be what the documents say, and the Rust's what its own order of work gives; it may panic only
+where that comes to a sum of 65535 or more. Both must be the same for a rule if three things hold for it and for each
+rule that it reaches: it has a sentence; it is without bound where it reaches itself; and by the Rust's own numbers no
+production of it comes to more than it. What does not hold is why they differ.
+
+Each kind is counted, and each kind of difference shown with the smallest grammar that has it; where FOLLOW of a grammar
+with a name differs, a line says so by the names of its text. The program exits with 1 if a difference is not explained.
 """
 import collections
 import concurrent.futures
@@ -34,14 +40,15 @@ sys.dont_write_bytecode = True
 import grammars
 import plain
 from block_text import TOP
-from named import SAID, named, refused, returned, texts
-from reading import STEPS, Reading, crate_follows
+from named import OVERFLOWS, SAID, named, refused, returned, texts
+from reading import STEPS, Reading, crate_dearest, crate_follows, parting
 
 ORACLE = [str(TOP / "target" / "oracle" / "oracle")]
 WORKERS = 2
 LARGE_EVERY = 2000  # so many random grammars from a large one to the next, which takes seconds
 UNEXPLAINED = "UNEXPLAINED "
 STOPPED = ("out of time", "out of memory")
+PLAIN = 100  # rules of a grammar with a name; with more tools/plain.py takes minutes, and is not asked
 AGAIN = 20  # times the time for a grammar on which the Rust ran out of it without a reason
 PASSES, CLASHES = "profile: the grammar passes", "profile: the grammar clashes"
 # Whether FOLLOW of ours has marks that the Rust has not, and whether the Rust has marks that ours has not.
@@ -108,6 +115,7 @@ def plain_answer(g, listed=()):
         "path": [[int(plain.has_path(g, a, b)) for b in rules] for a in rules],
         "beyond": [outcome(plain.production, g, len(g.owners)), outcome(plain.has_path, g, g.rules, 0),
                    outcome(plain.has_path, g, 0, g.rules)],
+        "dearest": plain.dearest(g),
         "costs": [outcome(plain.sentence_cost, g, r) for r in rules],
         "sentences": [outcome(plain.sentence, g, r) for r in rules],
         "counts": [outcome(plain.sentence_count, g, r) for r in rules],
@@ -196,6 +204,7 @@ class Comparer(Comparison):
                 self.count(f"asked again, with {AGAIN} times the time")
                 self.rust = self.ask_patiently(g, self.listed)
             self.tables()
+            self.dearest()
             self.costs()
             for r in range(g.rules):
                 self.sentence(r)
@@ -225,6 +234,8 @@ class Comparer(Comparison):
     def hurried(self):
         """Whether the Rust ran out of time without a reason: on a busy machine its time may have been too short. What
         it does with more time is what counts."""
+        if self.rust["dearest"] in STOPPED:
+            return True
         read = self.reading
         late = [r for r, outcome in enumerate(self.rust["sentences"]) if outcome in STOPPED]
         late_lists = [r for r, outcome in self.rust["lists"].items() if outcome in STOPPED and not read.made_again(r)]
@@ -281,6 +292,35 @@ class Comparer(Comparison):
             self.count("numbers out of range: as listed")
         else:
             self.unexplained("numbers out of range", f"the Rust {self.rust['beyond']}, ours {self.ours['beyond']}")
+
+    def dearest(self):
+        """The greatest costs: ours by the documents, the Rust's by its order of work."""
+        ours, due, given = self.ours["dearest"], plain.dearest(self.g), crate_dearest(self.g)
+        outcome = self.rust["dearest"]
+        kind = kind_of(outcome)
+        if ours != due:
+            self.unexplained("dearest: ours is not document 02's", f"{ours} and not {due}")
+        elif kind == "panicked" and given is None and outcome["panicked"] in OVERFLOWS:
+            here = "a rule is above" if plain.ABOVE in ours else "no rule is above"
+            self.differs(f"dearest: the Rust panics: a sum of 65535 or more; here {here}")
+        elif kind != "returned":
+            self.unexplained(f"dearest: {kind}", f"{outcome}; its order of work gives {given}")
+        else:
+            told = [plain.UNBOUNDED if cost is None else cost for cost in outcome["returned"]]
+            self.dearest_told(told, given, due)
+
+    def dearest_told(self, told, given, due):
+        if told != given:
+            self.unexplained("dearest: the Rust's is not what its order of work gives", f"{told} and not {given}")
+            return
+        for r, why in enumerate(parting(self.g, due, told)):
+            reasons = " and ".join(sorted(why))
+            if told[r] == due[r]:
+                self.count(f"dearest: the same, though there is {reasons}" if why else "dearest: the same")
+            elif why:
+                self.differs(f"dearest: differs: {reasons}")
+            else:
+                self.unexplained("dearest: differs", f"rule {r}: the Rust {told[r]}, here {due[r]}")
 
     def costs(self):
         kind, ours = kind_of(self.rust["costs"]), self.ours["costs"]
@@ -417,6 +457,8 @@ def compared(words, seconds, seed):
     missing = {said[0] for said in SAID} - {*names}
     assert not missing, missing
     for name, g in named():
+        if not words and g.rules > PLAIN and plain.refusal(g) == 0:
+            continue
         first.compare("named", name, g)
         lines += first.follow_lines(names[name])
     with concurrent.futures.ProcessPoolExecutor(WORKERS) as pool:

@@ -9,11 +9,13 @@ with a mark changed or spare bits set; numbers may be out of range, room short; 
 many grammars have equal choices, circles or some 65535 rows, and k is around the count. A job's record is of any kind,
 anywhere in its round, yes said by any number, now and then done; its slice is of no visit up to all that are left, and
 tables of other kinds are of any length, 0 included. A profile's grammar has many productions that one token tells
-apart, and in some few that it does not. A block file is of either version and has what a file can have wrong; one that
-is written must be bin/blocks' own. A house call has no grammar, and the rest of it is drawn as for the built-in one.
-The answer and every element of every list must be equal, those of a job's record too. It prints how often each call
-gave each refusal, 0 for an answer, and how often the profile gave each verdict; it exits with 1 if an answer differs,
-or if of the usual number of calls none gave some refusal that the call can give, or some verdict.
+apart, and in some few that it does not; DEAREST's has loops with and without a cost, rules without a sentence and costs
+around 65535. A block file is of either version and has what a file can have wrong; one that is written must be
+bin/blocks' own. A house call has no grammar, and the rest of it is drawn as for the built-in one. The answer and every
+element of every list must be equal, those of a job's record too. It prints how often each call gave each refusal, 0 for
+an answer, how often the profile gave each verdict, and how often DEAREST had each kind of entry; it exits with 1 if an
+answer differs, or if of the usual number of calls none gave some refusal that the call can give, or some verdict or
+kind.
 """
 import array
 import collections
@@ -43,20 +45,27 @@ SENTENCES = ["min_sentence_cost", "min_sentence"]
 LISTS = ["count_min_sentences", "min_sentence_at"]
 VISITS = ["cost_visit", "follow_visit"]
 REACHED = ["follow_visit", "follow_fill", "reached_fill"]
-VERDICTS = PASS, CLASH, NONE_SHARED = "pass", "clash", "clash without a shared token"
+PASS, CLASH, NONE_SHARED = "pass", "clash", "clash without a shared token"
+KINDS = {plain.UNBOUNDED: "without bound", plain.NONE: "no sentence", plain.ABOVE: "above 65534"}
+COST = "a cost"
+# What two calls tell besides their refusals: the profile's verdicts, the kinds of DEAREST's entries.
+TOLD = {"profile": (PASS, CLASH, NONE_SHARED), "dearest_fill": (COST, *KINDS.values())}
 TABLES = {0: (0, 1), 2: (0, 1, 2, 5), 3: (3,), 4: (4,)}  # of a slice, by the job's kind
 # The calls to draw from: more of those with many refusals or cases. File reads have the longest lists.
 DRAWN = [name for name in calls.CALLS if name != "read_blocks"] * 2 + SENTENCES * 6 + VISITS * 3 + ["read_blocks"] * 3
 DRAWN += ["write_blocks"] * 2 + ["follow_visit"] * 4 + LISTS * 4 + ["min_sentence_at"] * 4 + ["slice"] * 8
-DRAWN += ["profile"] * 6
+DRAWN += ["profile"] * 6 + ["dearest_fill"] * 4
 # The shapes that show most of a call: sentences that are refused, visits that read what they have written, rules that
-# are not reached, jobs of several rounds, productions that one token tells apart or not, files of several blocks.
+# are not reached, jobs of several rounds, productions that one token tells apart or not, loops and sums of any kind,
+# files of several blocks.
 TELLING = {name: ["no_sentence", "dear", "dear_flat", "unit_cycles"] for name in SENTENCES}
 TELLING |= {name: ["equal_choices"] * 5 + ["unit_cycles", "no_sentence", "dear_flat", "layered"] for name in LISTS}
 TELLING |= {name: ["own_rule", "empty_chains", "right_recursion"] for name in VISITS}
 TELLING |= {name: TELLING.get(name, []) + ["unreached", "unreached", "many_rules"] for name in REACHED}
 TELLING |= {"slice": ["own_rule", "empty_chains", "right_recursion", "unreached", "layered", "dear"]}
 TELLING |= {"profile": ["one_token"] * 4 + ["unreached", "empty_chains", "right_recursion", "many_rules", "wide_both"]}
+TELLING |= {"dearest_fill": ["unit_cycles", "mutual_recursion", "free_tokens", "no_sentence", "dear", "dear_flat",
+                             "layered", "many_rules"]}
 TELLING |= {"write_blocks": ["wide_tokens", "wide_both", "many_rules", "dear_flat"]}
 
 
@@ -358,7 +367,14 @@ def verdict(g, words):
     return CLASH if token < len(g.costs) else NONE_SHARED
 
 
-def batch(draw, count, program, counts, verdicts):
+def told(name, given, words):
+    """What the words of a call that answered tell: a profile's verdict, the kinds of DEAREST's entries."""
+    if name == "profile":
+        return [verdict(given[0], words)]
+    return [KINDS.get(entry, COST) for entry in words[-given[0].rules :]] if name == "dearest_fill" else []
+
+
+def batch(draw, count, program, counts, tells):
     """So many calls; what is wrong with them."""
     made = [any_call(draw) for _ in range(count)]
     due = [expected(*call) for call in made]
@@ -368,8 +384,7 @@ def batch(draw, count, program, counts, verdicts):
     wrong, at = [], 0
     for call, words in zip(made, due):
         counts[call[0], words[0]] += 1
-        if call[0] == "profile" and not words[0]:
-            verdicts[verdict(call[1][0], words)] += 1
+        tells.update((call[0], each) for each in (told(*call, words) if words[0] == 0 else []))
         if seen[at : at + len(words)] != words:
             wrong.append(shown(*call, words, seen[at : at + len(words)]))
         at += len(words)
@@ -384,23 +399,24 @@ def table(counts):
         yield f"{name:20}" + "".join(f"{counts[name, number] or '':>6}" for number in numbers)
 
 
-def never(counts, verdicts):
+def never(counts, tells):
     """What a call can answer by the documents and did not."""
     for name, call in calls.CALLS.items():
         for number in (0, *(() if call.house else range(1, 7)), *call.refusals):
             if not counts[name, number]:
                 yield f"{name} never gave {number}"
-    yield from (f"profile never gave {each}" for each in VERDICTS if not verdicts[each])
+    yield from (f"{name} never gave {each}" for name in TOLD for each in TOLD[name] if not tells[name, each])
 
 
 def main(words):
     count, seed, program = int(words[0]), int(words[1]), words[2:]
-    draw, counts, verdicts, wrong = random.Random(seed), collections.Counter(), collections.Counter(), []
+    draw, counts, tells, wrong = random.Random(seed), collections.Counter(), collections.Counter(), []
     for start in range(0, count, BATCH):
-        wrong += batch(draw, min(BATCH, count - start), program, counts, verdicts)
+        wrong += batch(draw, min(BATCH, count - start), program, counts, tells)
     print("\n".join(table(counts)))
-    print("profile: " + ", ".join(f"{verdicts[each]} {each}" for each in VERDICTS))
-    missing = list(never(counts, verdicts)) if count >= USUAL else []
+    for name, kinds in TOLD.items():
+        print(f"{name}: " + ", ".join(f"{tells[name, each]} {each}" for each in kinds))
+    missing = list(never(counts, tells)) if count >= USUAL else []
     print("\n".join(missing + wrong[:10]), end="\n" if missing or wrong else "")
     print(f"{sum(counts.values())} calls, {len(wrong)} wrong")
     return 1 if wrong or missing else 0

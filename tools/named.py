@@ -17,13 +17,21 @@ CASES = {
     "again": "tokens eof|rules start A B|start: A|A: B*40|B:",
     "sixty": "tokens eof|rules start " + " ".join(f"r{k}" for k in range(1, 61)) + "|start: r1"
     + "".join(f"|r{k}: r{k + 1}*2" for k in range(1, 60)) + "|r60:",
+    "early": "tokens a eof|rules start A B|start: A|A: a|A: B|B: a a",
+    "S below B": "tokens x y eof|rules start S B|start: S|S: x|S: B|B: y*3",
+    "B below S": "tokens x y eof|rules start B S|start: S|S: x|S: B|B: y*3",
+    "free list": "tokens x=0 eof|rules start A|start: A|A: A x|A: x",
+    "most": "tokens a=255 b=254 eof|rules start A|start: A|A: a*256 b",
+    "doublings": "tokens x eof|rules start " + " ".join(f"A{k}" for k in range(1, 502)) + "|start: A1"
+    + "".join(f"|A{k}: A{k + 1}*2" for k in range(1, 501)) + "|A501: x",
     "round": "tokens a eof|rules start A|start: A|A: a|A: A",
     "many": "tokens a eof|rules start A B|start: A|A: B B" + "|B: a" * 256,
     "513 rules": "tokens a eof|rules start " + " ".join(f"r{k}" for k in range(1, 513)) + "|start: r1"
     + "".join(f"|r{k}: a" for k in range(1, 513)),
 }
 ROW = [0, 4, 0, 4, 0, 2, 0, 5, 0, *[2] * 36, 6]  # the house export's cheapest row, by hand
-OVERFLOW = {"panicked": "Overflow occurred when calculating rule costs"}
+OVERFLOWS = "Overflow occurred when calculating rule costs", "Unable to represent cost in 64 bits."
+OVERFLOW, AT_65535 = ({"panicked": message} for message in OVERFLOWS)
 LATE = "out of time"
 
 
@@ -79,8 +87,20 @@ SAID = [
     ("own sum", "lists 1", {"panicked": "attempt to add with overflow"}, "lists 1", returned([])),
     ("again", "lists 1", returned([]), "lists 1", returned([])),
     ("sixty", "lists 1", LATE, "lists 1", returned([])),
+    ("early", "dearest", returned(1, 1, 2), "dearest", [2, 2, 2]),
+    ("S below B", "dearest", returned(1, 1, 3), "dearest", [3, 3, 3]),
+    ("B below S", "dearest", returned(3, 3, 3), "dearest", [3, 3, 3]),
+    ("no way out", "dearest", returned(None, None), "dearest", [plain.NONE] * 2),
+    ("empty loop", "dearest", returned(None, None), "dearest", [0, 0]),
+    ("g3", "dearest", returned(None, None), "dearest", [1, 1]),
+    ("free list", "dearest", returned(None, None), "dearest", [0, 0]),
+    ("bound loop", "dearest", returned(None, None), "dearest", [plain.UNBOUNDED] * 2),
+    ("most", "dearest", returned(65534, 65534), "dearest", [65534, 65534]),
+    ("g5", "dearest", AT_65535, "dearest", [plain.ABOVE] * 2),
+    ("doublings", "dearest", OVERFLOW, "dearest 1", plain.ABOVE),
     ("513 rules", "sentences 512", returned(0), "refused", 1),
     ("house", "first 14", [0, 3], "first 14", [0, 3]),
+    ("house", "dearest returned 0", 142, "dearest 0", 142),
     ("house", "costs returned 0", 46, "costs 0", returned(46)),
     ("house", "sentences 0 returned 0", 6, "sentences 0", returned(*ROW)),
     ("house", "lists 0", returned(ROW), "lists 0", returned(ROW)),

@@ -1,15 +1,16 @@
 #!/usr/bin/env python3
 """Document 01 once more, plain and slow: sets, recursion and whole numbers of any size; of document 02 the versions of
 the block file, several exports in one grammar, that for FOLLOW only productions of reached rules count, all cheapest
-sentences, entries of COST that tell dear from unknown, and the profile of one-token readers. It is written from those
-texts, with the readings of their open points in docs/DECISIONS.md, and from no crate.
+sentences, entries of COST that tell dear from unknown, the profile of one-token readers, and the dearest sentences. It
+is written from those texts, with the readings of their open points in docs/DECISIONS.md, and from no crate.
 
     tools/plain.py report FILE         the report of a block file; '-' stands for standard input
 
 As a module it is there to be compared with. The tables follow the definitions and not the visits: what a rule may
-start with is found over a graph, and the cheapest costs are settled from the cheapest up (Knuth's way). Single
-visits are there beside them. A refusal is the exception Refused with its number. Tables are lists and sets of Python,
-whose lengths cannot be wrong, and FOLLOW takes no mode here: nothing gives 7 or 8.
+start with is found over a graph, the cheapest costs are settled from the cheapest up (Knuth's way), and costs without
+bound are found by which rules reach which. Single visits are there beside them. A refusal is the exception Refused with
+its number. Tables are lists and sets of Python, whose lengths cannot be wrong, and FOLLOW takes no mode here: nothing
+gives 7 or 8.
 """
 import functools
 import itertools
@@ -21,6 +22,9 @@ VERSION = 32768  # what a version 2 file has added to its R field
 MOST = 65535
 DEAR = 65536
 UNKNOWN = 65537
+UNBOUNDED = 65535  # in DEAREST, where costs go up to 65534; NONE for no sentence, ABOVE for a bound above 65534
+NONE = 65536
+ABOVE = 65537
 HEADING = "rule,empty,first,follow,cost"
 
 sys.setrecursionlimit(10000)
@@ -172,6 +176,11 @@ def rule_links(g):
     return links
 
 
+def links_of(bodies):
+    """The same by the productions of each rule."""
+    return {r: {rule for body in own for rule in rules_of(body)} for r, own in bodies.items()}
+
+
 def reached(g):
     """The reached rules: rule 0 and those that have a path from it."""
     check(g)
@@ -302,6 +311,78 @@ def sentence_cost(g, r):
     return cost
 
 
+def sentence_bodies(g):
+    """Of each rule that has a sentence the productions that derive one."""
+    found = {r: [] for r in productives(g)}
+    for r, body in g.productions():
+        if set(rules_of(body)) <= found.keys():
+            found[r].append(body)
+    return found
+
+
+def can_cost(g, s, rules):
+    """Whether a symbol can cost something, those being the rules that can."""
+    return s - RULE in rules if s >= RULE else g.costs[s] > 0
+
+
+def costly(g, bodies):
+    """The rules of which some sentence costs something."""
+    symbols = {r: {s for body in own for s in body} for r, own in bodies.items()}
+    return least(lambda held: {r for r, own in symbols.items() if any(can_cost(g, s, held) for s in own)})
+
+
+def gaining(g, bodies):
+    """Pairs of a rule and a rule in a production of it that can cost something at another place."""
+    rules, found = costly(g, bodies), set()
+    for r, body in ((r, body) for r, own in bodies.items() for body in own):
+        places = [can_cost(g, s, rules) for s in body]
+        others = sum(places)
+        found |= {(r, s - RULE) for s, own in zip(body, places) if s >= RULE and others > own}
+    return found
+
+
+def reaching(bodies):
+    """Of each rule the rules that it reaches through these productions, itself by none of them."""
+    links = links_of(bodies)
+    return {r: {r} | linked(r, links) for r in links}
+
+
+def without_bound(g, bodies, below):
+    """The rules that reach one which comes back to itself with something that can cost beside it."""
+    growing = {r for r, rule in gaining(g, bodies) if r in below[rule]}
+    return {r for r in below if below[r] & growing}
+
+
+def greatest_costs(g, bodies, below, rules):
+    """The greatest cost, however large, of each of these rules, which have a bound. Rules that reach one another add
+    nothing on the way, so they have the same: that of a production of one of them which holds none of them."""
+    known = {}
+
+    def greatest(r):
+        if r not in known:
+            ring = {rule for rule in below[r] if r in below[rule]}
+            leaving = [body for rule in ring for body in bodies[rule] if ring.isdisjoint(rules_of(body))]
+            known.update(dict.fromkeys(ring, max(map(total, leaving))))
+        return known[r]
+
+    def total(body):
+        return sum(greatest(s - RULE) if s >= RULE else g.costs[s] for s in body)
+
+    return {r: greatest(r) for r in rules}
+
+
+def dearest(g):
+    """DEAREST of each rule: the greatest cost of a sentence, at most 65534, or 65535 if their costs are without bound,
+    65536 if it has no sentence, 65537 if the greatest is above 65534."""
+    check(g)
+    bodies = sentence_bodies(g)
+    below = reaching(bodies)
+    unbounded = without_bound(g, bodies, below)
+    known = greatest_costs(g, bodies, below, bodies.keys() - unbounded)
+    found = dict.fromkeys(unbounded, UNBOUNDED) | {r: cost if cost < UNBOUNDED else ABOVE for r, cost in known.items()}
+    return [found.get(r, NONE) for r in range(g.rules)]
+
+
 def cheapest(g, known):
     """The productions whose cost equals the rule's, in rising number, of each rule whose cost is known."""
     found = {}
@@ -370,7 +451,7 @@ def sentence(g, r, room=MOST):
 
 def circular(choices):
     """The rules that, through these productions, reach or are a rule that so reaches itself."""
-    links = {r: {rule for body in bodies for rule in rules_of(body)} for r, bodies in choices.items()}
+    links = links_of(choices)
     below = {r: linked(r, links) for r in links}
     around = {r for r in links if r in below[r]}
     return {r for r in links if r in around or below[r] & around}

@@ -1,15 +1,19 @@
 """What document 01 says of the costs and sentences of a grammar, and what the loops of the Rust make of them: where
 they do not return, where they panic, and what they write; what document 02 says of lists of sentences, and how much
-work they are for the Rust; and the FOLLOW of the Rust. All is worked out from the grammar alone."""
+work they are for the Rust; the FOLLOW of the Rust; and its greatest costs, and why they may be others than document
+02's. All is worked out from the grammar alone, but for the last, which takes the greatest costs as given."""
 import collections
 import functools
+import math
 
 import plain
 from named import refused, returned
-from plain import MOST, RULE
+from plain import MOST, NONE, RULE, UNBOUNDED
 
 ROWS, TOKENS = 300, 10_000  # a list of more is not asked for
 STEPS = 100_000  # so many steps of min_sentence and of min_sentences fit well into the oracle's time
+# Why the Rust's greatest cost of a rule may be another than document 02's.
+EARLY, WITHOUT, FREE = "a rule settled too soon", "a production without a sentence", "a loop of no cost"
 
 
 def circle(links):
@@ -30,6 +34,70 @@ def crate_follows(g, counting):
                 if plain.vanishes(body[k + 1 :], empty):
                     heirs.setdefault(r, set()).add(a - RULE)
     return plain.handed_on(own, heirs)
+
+
+class Overflow(Exception):
+    """A sum of rule_max_costs comes to 65535."""
+
+
+def crate_sum(g, body, cost):
+    """A production's sum as rule_max_costs adds it up: no bound at the first rule that has none."""
+    total = 0
+    for s in body:
+        if s >= RULE and cost[s - RULE] == UNBOUNDED:
+            return UNBOUNDED
+        total += cost[s - RULE] if s >= RULE else g.costs[s]
+        if total >= UNBOUNDED:
+            raise Overflow
+    return total
+
+
+def crate_turn(g, bodies, cost, settled):
+    """What a turn of rule_max_costs gives a rule of these productions, and whether that settles it: where it has no
+    bound, or where a production of settled rules alone comes to more than all others so far."""
+    whole, rising = -1, -1
+    for body in bodies:
+        total = crate_sum(g, body, cost)
+        if total == UNBOUNDED:
+            return UNBOUNDED, True
+        if settled.issuperset(plain.rules_of(body)):
+            whole = max(whole, total)
+        else:
+            rising = max(rising, total)
+    return max(whole, rising), whole > rising
+
+
+def crate_dearest(g):
+    """The greatest costs by the Rust's order of work: a rule that reaches itself has no bound, the others take turns
+    until all are settled. None where it panics."""
+    links, rules = plain.rule_links(g), range(g.rules)
+    settled = {r for r in rules if r in plain.linked(r, links)}
+    cost = [UNBOUNDED if r in settled else 0 for r in rules]
+    bodies = [[body for owner, body in g.productions() if owner == r] for r in rules]
+    try:
+        while len(settled) < g.rules:
+            for r in (r for r in rules if r not in settled):
+                cost[r], whole = crate_turn(g, bodies[r], cost, settled)
+                settled |= {r} if whole else set()
+    except Overflow:
+        return None
+    return cost
+
+
+def greatest(cost):
+    return math.inf if cost == UNBOUNDED else cost
+
+
+def parting(g, due, told):
+    """Of each rule why the greatest costs that are told may be others than those due, for itself or for a rule that it
+    reaches; where none is named they must be the same."""
+    links, rules = plain.rule_links(g), range(g.rules)
+    below = [plain.linked(r, links) for r in rules]
+    own = [{WITHOUT} if due[r] == NONE else {FREE} if r in below[r] and due[r] != UNBOUNDED else set() for r in rules]
+    for r, body in g.productions():
+        if sum(greatest(told[s - RULE]) if s >= RULE else g.costs[s] for s in body) > greatest(told[r]):
+            own[r].add(EARLY)
+    return [own[r].union(*(own[rule] for rule in below[r])) for r in rules]
 
 
 class Reading:

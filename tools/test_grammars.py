@@ -126,6 +126,16 @@ class Calls(unittest.TestCase):
                 self.assertEqual(calls.answer("profile", [g, *wrong]), [7] + [0] * 5)
                 self.assertEqual(wrong, kept)
 
+    def test_dearest(self):
+        dearest = [0, 65535, 65537, 1 << 31]
+        self.assertEqual(calls.answer("dearest_fill", [G1, dearest]), [0, 0])
+        self.assertEqual(dearest, [4, 4, 1, 2])
+        for length in 0, 3, 5:
+            table = [9] * length
+            self.assertEqual(calls.answer("dearest_fill", [G1, table]), [7, 0])
+            self.assertEqual(calls.answer("dearest_fill", [G1._replace(owners=[4] * 6), table]), [3, 0])
+            self.assertEqual(table, [9] * length)
+
     def test_spare_bits_stay(self):
         first, empty = [1 << 4] * 4, [1 << 4]
         self.assertEqual(calls.answer("first_visit", [G1, 1, first, empty]), [0, 1])

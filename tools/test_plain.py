@@ -1,5 +1,5 @@
 #!/usr/bin/env python3
-"""Tests of plain.py: document 01's lines, the examples' reports, the refusals, and small random grammars held to the
+"""Tests of plain.py: document 01's lines, the examples' reports, the refusals, and small grammars held to the
 definitions by search; and of reading.py's FOLLOW. Run alone, or with the others of this folder:
 python3 -m unittest discover -s tools"""
 import collections
@@ -11,6 +11,7 @@ import sys
 import unittest
 
 sys.dont_write_bytecode = True
+import grammars
 import named
 import plain
 import reading
@@ -418,6 +419,99 @@ class Plain(unittest.TestCase):
                 self.assertEqual(found, min(clashes(g, 6), default=None))
                 seen["passes" if found is None else "T" if found.token == len(g.costs) else "token"] += 1
         self.assertEqual(set(seen), {"passes", "T", "token"})
+
+    def dearest_is(self, costs, bodies, *due):
+        """Rule 0 is rule 1, and the rules behind it have these productions, lists of their symbols."""
+        own = [(0, [RULE + 1])] + [(r, body) for r, rule in enumerate(bodies, 1) for body in rule]
+        self.assertEqual(plain.dearest(grammars.grammar(len(bodies) + 1, costs, own)), [due[0], *due])
+
+    def test_dearest_of_the_examples(self):
+        due = {
+            "g1": [4, 4, 1, 2], "g2": [3, 3, 1, 1], "g3": [1, 1], "g4": [65536] * 2, "g5": [65537] * 2,
+            "g5-dear": [65537] * 2, "g5-either": [65537] * 2, "g6": [65535] * 2,
+            "house": [142, 142, *[11] * 12, *[4, 3, 1] * 12, 9, 5, 3, 4, 3, 1, 1, 2],
+        }
+        for name, entries in due.items():
+            with self.subTest(name):
+                self.assertEqual(plain.dearest(example(name)), entries)
+
+    def test_dearest_where_the_rust_differs(self):
+        A, B, ones = RULE + 1, RULE + 2, [1, 1, 1]
+        self.dearest_is(ones, [[[0], [B]], [[0, 0]]], 2, 2)  # early settling
+        self.dearest_is(ones, [[[0], [B]], [[1, 1, 1]]], 3, 3)
+        self.dearest_is(ones, [[[A]]], 65536)  # no sentence
+        self.dearest_is(ones, [[[0, 0], [0, B, 0]], [[B, 0]]], 2, 65536)
+        self.dearest_is(ones, [[[A], []]], 0)  # loops of no cost
+        self.dearest_is(ones, [[[A], [0]]], 1)
+        self.dearest_is([0, 0], [[[A, 0], [0]]], 0)
+        self.dearest_is([0, 0], [[[A, A], [0]]], 0)
+        self.dearest_is([0, 1, 1], [[[A, B], [1]], [[B, 0], [0]]], 1, 0)
+        self.dearest_is([0, 1, 1], [[[B, 0], [1]], [[0, A], [1, 1]]], 2, 2)
+        # two exports: the greater of both
+        g = grammars.grammar(3, ones, [(0, [A]), (1, [0]), (2, [0, 1]), (0, [B])])
+        self.assertEqual(plain.dearest(g), [2, 1, 2])
+
+    def test_dearest_without_bound(self):
+        A, B, C = RULE + 1, RULE + 2, RULE + 3
+        self.dearest_is([1, 1], [[[A, A], [0]]], 65535)
+        self.dearest_is([0, 1, 1], [[[0, A], [1, A], []]], 65535)
+        # round B and C without gain, but C holds A beside it, which can cost something
+        self.dearest_is([1, 1], [[[0], []], [[C]], [[B, A], []]], 1, 65535, 65535)
+        # the same where the gain is in a production without a sentence
+        self.dearest_is([1, 1], [[[0], []], [[C]], [[B, A, RULE + 4], []], [[RULE + 4]]], 1, 0, 0, 65536)
+        # a rule without bound beats a bound above 65534, and one without a sentence beats both
+        for more, due in ([C], 65535), ([C, RULE + 4], 0):
+            bodies = [[[B, *more], []], [[0] * 257], [[0, C], [0]], [[RULE + 4]]]
+            self.dearest_is([255, 1], bodies, due, 65537, 65535, 65536)
+
+    def test_dearest_around_65534(self):
+        for ones, due in (253, 65533), (254, 65534), (255, 65537), (256, 65537):
+            self.dearest_is([255, 1, 0], [[[0] * 256 + [1] * ones]], due)
+        # 500 rules, each twice the next: 1, 2, 4, .. 32768, and then above
+        twice = [[[RULE + r + 1] * 2] for r in range(1, 501)]
+        self.dearest_is([1, 1], twice + [[[0]]], *[65537] * 485, *(1 << k for k in range(15, -1, -1)))
+        self.dearest_is([0, 1], twice + [[[0]]], *[0] * 501)
+        self.dearest_is([1, 1], twice + [[[RULE + 1]]], *[65536] * 501)
+        self.dearest_is([1, 1], twice + [[[RULE + 1], [0]]], *[65535] * 501)
+
+    def test_dearest_of_rows_and_rings(self):
+        after = [RULE + r + 1 for r in range(1, 511)]
+        # each a and the next one, the last a
+        self.dearest_is([1, 1], [[[0, s]] for s in after] + [[[0]]], *range(511, 0, -1))
+        # each the next one and the last the first; rule 256 has a way out, and then goes on at a cost
+        ring = [[[s]] for s in after + [RULE + 1]]
+        self.dearest_is([1, 1], ring, *[65536] * 511)
+        ring[255].append([0, 0])
+        self.dearest_is([1, 1], ring, *[2] * 511)
+        ring[255].append([RULE + 257, 0])
+        self.dearest_is([1, 1], ring, *[65535] * 511)
+
+    def dearest_by_search(self, g, most, cap):
+        """Holds DEAREST to the costs, up to the cap, of all sentences, where no bound is above that most; how many rules
+        are without bound, and how many without a sentence."""
+        entries = plain.dearest(g)
+        for entry, paid in zip(entries, sentence_costs(g, cap)):
+            if entry == 65535:
+                self.assertGreater(max(paid), most)
+            else:
+                self.assertEqual(entry, max(paid, default=65536))
+        return collections.Counter(entry for entry in entries if entry >= 65535)
+
+    def test_dearest_of_all_small_grammars(self):
+        # the dearest with a bound are A: B B; B: a a
+        seen = collections.Counter()
+        for g in grammars.small():
+            seen += self.dearest_by_search(g, 4, 16)
+        self.assertEqual(set(seen), {65535, 65536})
+
+    def test_dearest_of_random_grammars(self):
+        # at most three doublings of a token that costs 3
+        dice, seen = random.Random(6), collections.Counter()
+        for k in range(400):
+            g = random_grammar(dice)
+            with self.subTest(f"{k}: {g}"):
+                seen += self.dearest_by_search(g, 24, 60)
+        self.assertEqual(set(seen), {65535, 65536})
 
     def test_random_sentences(self):
         dice = random.Random(2)

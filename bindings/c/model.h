@@ -1,14 +1,15 @@
 /* Document 01 once more in C, with the file writer, the versions, the several exports, the reached rules, the lists of
- * cheapest sentences, the dear entries, the slices and the profile of document 02, plain and slow, to compare the
- * library with. It is written from those texts, with the readings of their open points in docs/DECISIONS.md, and from
- * no crate; but the slices' crate had been read before. A call names an exported function and holds what it is lent;
- * `model` makes the call on those lists. */
+ * cheapest sentences, the dear entries, the slices, the profile and the dearest sentences of document 02, plain and
+ * slow, to compare the library with. It is written from those texts, with the readings of their open points in
+ * docs/DECISIONS.md, and from no crate; but the slices' crate had been read before. A call names an exported function
+ * and holds what it is lent; `model` makes the call on those lists. */
 #include <stddef.h>
 #include <stdint.h>
 #include <string.h>
 
 enum { RULE = 32768, MOST = 65535 };
 enum { DEAR = 65536, UNKNOWN = 65537, LONG_ONE = 65536, UNGROUNDED = 65537, MANY = 65536, CIRCULAR = 65537 };
+enum { UNBOUNDED = 65535, NO_SENTENCE = 65536, ABOVE = 65537 }; /* in DEAREST, where costs go up to 65534 */
 enum { VERSION_2 = 32768 }; /* what a version 2 file has added to its R field */
 
 typedef struct {
@@ -34,6 +35,7 @@ typedef enum {
     COST_VISIT,
     COST_FILL,
     MIN_SENTENCE_COST,
+    DEAREST_FILL,
     REACHED_FILL,
     FOLLOW_CLEAR,
     FOLLOW_VISIT,
@@ -51,8 +53,8 @@ typedef enum {
  * lent FIRST, EMPTY, FOLLOW, PRODUCTIVE, COST and the reached row. */
 enum { TABLES = 6 };
 static const char *const tables_of[OPS] = {
-    "",  "",  "T", "E", "TE",   "TE",   "TE",   "",       "E",  "E",   "E",   "C", "C",
-    "C", "C", "E", "T", "TTEE", "TTEE", "TTEE", "TETECE", "CC", "CCC", "CCC", ""};
+    "",  "",  "T", "E", "TE", "TE",   "TE",   "",     "E",      "E",  "E",   "C",   "C",
+    "C", "C", "C", "E", "T",  "TTEE", "TTEE", "TTEE", "TETECE", "CC", "CCC", "CCC", ""};
 
 /* What a job fills, and the tables of a slice that are of each kind, in the order of that kind's own calls. A number
  * without tables is no kind. */
@@ -185,10 +187,15 @@ static int visit_follow(const grammar *g, size_t p, uint32_t *follow, const uint
     return changed;
 }
 
-static int visit_productive(const grammar *g, size_t p, uint32_t *productive) {
+/* Whether every rule in a production is marked. */
+static int all_marked(const grammar *g, size_t p, const uint32_t *row) {
     for (size_t i = g->starts[p]; i < g->starts[p + 1]; i++)
-        if (g->symbols[i] >= RULE && !marked(productive, g->symbols[i] - RULE)) return 0;
-    return mark(productive, g->owners[p]);
+        if (g->symbols[i] >= RULE && !marked(row, g->symbols[i] - RULE)) return 0;
+    return 1;
+}
+
+static int visit_productive(const grammar *g, size_t p, uint32_t *productive) {
+    return all_marked(g, p, productive) && mark(productive, g->owners[p]);
 }
 
 /* A production's sum by the entries of a COST table: an unknown part makes it unknown; otherwise a dear part, or a
@@ -255,9 +262,8 @@ static uint32_t without_cost(const grammar *g, size_t rule, const uint32_t *cost
     return cost[rule] > MOST ? 13 : 0;
 }
 
-/* Whether `to` stands in some form that `from` derives in one or more steps. */
-static int path(const grammar *g, size_t from, size_t to) {
-    uint8_t held[512] = {0};
+/* Sets, of bytes that are 0, those of the rules that stand in some form which `from` derives in one or more steps. */
+static void reach(const grammar *g, size_t from, uint8_t *held) {
     for (int again = 1; again;) {
         again = 0;
         for (size_t p = 0; p < g->prods; p++) {
@@ -266,6 +272,12 @@ static int path(const grammar *g, size_t from, size_t to) {
                 if (g->symbols[i] >= RULE && !held[g->symbols[i] - RULE]) again = held[g->symbols[i] - RULE] = 1;
         }
     }
+}
+
+/* Whether `to` is among them. */
+static int path(const grammar *g, size_t from, size_t to) {
+    uint8_t held[512] = {0};
+    reach(g, from, held);
     return held[to];
 }
 
@@ -284,6 +296,105 @@ static void fill_follow(const grammar *g, uint32_t *follow, uint32_t *first, uin
         again = 0;
         for (size_t p = 0; p < g->prods; p++) again |= visit_follow(g, p, follow, first, empty, reached);
     }
+}
+
+/* The productions that derive a sentence, as a grammar of their own, in which a rule may own none. */
+static grammar with_sentence(const grammar *g, const uint32_t *productive) {
+    static uint16_t owners[4096], starts[4097], symbols[16384];
+    grammar own = {g->rules, owners, starts, symbols, g->costs, 0, 1, 0, g->tokens};
+    for (size_t p = 0; p < g->prods; p++) {
+        if (!all_marked(g, p, productive)) continue;
+        for (size_t i = g->starts[p]; i < g->starts[p + 1]; i++) symbols[own.symbols_len++] = g->symbols[i];
+        owners[own.prods++] = g->owners[p];
+        starts[own.starts_len++] = (uint16_t)own.symbols_len;
+    }
+    return own;
+}
+
+/* By rules: which ones a rule reaches, itself by no step; whether it can cost something; whether it is unbounded; its
+ * greatest cost, or UNBOUNDED for one above 65534, or OPEN. */
+enum { OPEN = 65538 };
+static struct {
+    uint8_t below[512][512], costly[512], unbounded[512];
+    uint32_t greatest[512];
+} ends;
+
+/* Marks each rule that reaches a marked one too. */
+static void spread(const grammar *g, uint8_t *marks) {
+    uint8_t found[512] = {0};
+    for (size_t r = 0; r < g->rules; r++)
+        for (size_t q = 0; q < g->rules; q++) found[r] |= ends.below[r][q] && marks[q];
+    memcpy(marks, found, g->rules);
+}
+
+static int can_cost(const grammar *g, uint16_t s) { return s < RULE ? g->costs[s] > 0 : ends.costly[s - RULE]; }
+
+/* Whether a production's rule comes back to itself through a rule in it, at a place beside which another can cost
+ * something. */
+static int gains(const grammar *g, size_t p) {
+    size_t costly = 0;
+    for (size_t i = g->starts[p]; i < g->starts[p + 1]; i++) costly += (size_t)can_cost(g, g->symbols[i]);
+    for (size_t i = g->starts[p]; i < g->starts[p + 1]; i++) {
+        uint16_t s = g->symbols[i];
+        if (s >= RULE && ends.below[s - RULE][g->owners[p]] && costly > (size_t)can_cost(g, s)) return 1;
+    }
+    return 0;
+}
+
+/* Of the productions that derive a sentence: fills all but the greatest costs. */
+static void find_unbounded(const grammar *g) {
+    memset(&ends, 0, sizeof ends);
+    for (size_t r = 0; r < g->rules; r++) reach(g, r, ends.below[r]), ends.below[r][r] = 1;
+    for (size_t p = 0; p < g->prods; p++)
+        for (size_t i = g->starts[p]; i < g->starts[p + 1]; i++)
+            if (g->symbols[i] < RULE && g->costs[g->symbols[i]]) ends.costly[g->owners[p]] = 1;
+    spread(g, ends.costly);
+    for (size_t p = 0; p < g->prods; p++)
+        if (gains(g, p)) ends.unbounded[g->owners[p]] = 1;
+    spread(g, ends.unbounded);
+}
+
+/* Whether two rules reach each other. */
+static int one_ring(size_t a, size_t b) { return ends.below[a][b] && ends.below[b][a]; }
+
+static uint32_t greatest(const grammar *g, size_t rule);
+
+/* A production's greatest cost; 0 if it holds a rule of the ring of `rule`, since it adds nothing to that one's. */
+static uint32_t greatest_of(const grammar *g, size_t p, size_t rule) {
+    uint32_t sum = 0;
+    for (size_t i = g->starts[p]; i < g->starts[p + 1]; i++) {
+        uint16_t s = g->symbols[i];
+        if (s >= RULE && one_ring(rule, s - RULE)) return 0;
+        sum += s < RULE ? g->costs[s] : greatest(g, s - RULE);
+        if (sum > UNBOUNDED) sum = UNBOUNDED;
+    }
+    return sum;
+}
+
+/* The greatest cost of a rule that has a bound: rules of one ring have the same. */
+static uint32_t greatest(const grammar *g, size_t rule) {
+    uint32_t most = 0;
+    if (ends.greatest[rule] != OPEN) return ends.greatest[rule];
+    for (size_t p = 0; p < g->prods; p++) {
+        uint32_t one = one_ring(rule, g->owners[p]) ? greatest_of(g, p, rule) : 0;
+        if (one > most) most = one;
+    }
+    return ends.greatest[rule] = most;
+}
+
+static void fill_dearest(const grammar *g, uint32_t *dearest) {
+    uint32_t productive[16];
+    fill_productive(g, productive);
+    grammar own = with_sentence(g, productive);
+    find_unbounded(&own);
+    clear(ends.greatest, 512, OPEN);
+    for (size_t r = 0; r < g->rules; r++)
+        if (!marked(productive, r))
+            dearest[r] = NO_SENTENCE;
+        else if (ends.unbounded[r])
+            dearest[r] = UNBOUNDED;
+        else
+            dearest[r] = greatest(&own, r) == UNBOUNDED ? ABOVE : greatest(&own, r);
 }
 
 /* Sets the row to the tokens by which a reader takes production p: those that it may start with, and FOLLOW of its
@@ -664,6 +775,9 @@ static result model(call *c) {
         fill_cost(g, a);
         number = without_cost(g, c->rule, a);
         return number ? refused(number) : answered(a[c->rule]);
+    case DEAREST_FILL:
+        fill_dearest(g, a);
+        return r;
     case REACHED_FILL:
         fill_reached(g, a);
         return r;

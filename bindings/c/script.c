@@ -237,6 +237,7 @@ static void say_verdict(boltmarrow_verdict v) {
     EACH(cost_visit, 0, G, PROD(i), T(A))                                                                              \
     ONE(cost_fill, 0, G, T(A))                                                                                         \
     ONE(min_sentence_cost, 1, G, RULE(0), T(A))                                                                        \
+    ONE(dearest_fill, 0, G, T(A))                                                                                      \
     ONE(reached_fill, 0, G, T(D))                                                                                      \
     ONE(follow_clear, 0, G, T(A))                                                                                      \
     EACH(follow_visit, 1, G, N(0), PROD(i), T(A), T(B), T(C), T(D))                                                    \

@@ -74,8 +74,9 @@ static const char *const names[OPS] = {
     "check",        "production",       "mark",             "rule_mark",       "first_clear",
     "first_visit",  "first_fill",       "has_path",         "productive_clear", "productive_visit",
     "productive_fill", "cost_clear",    "cost_visit",       "cost_fill",       "min_sentence_cost",
-    "reached_fill", "follow_clear",     "follow_visit",     "follow_fill",     "profile",
-    "slice",        "min_sentence",     "count_min_sentences", "min_sentence_at", "write_blocks"};
+    "dearest_fill", "reached_fill",     "follow_clear",     "follow_visit",    "follow_fill",
+    "profile",      "slice",            "min_sentence",     "count_min_sentences", "min_sentence_at",
+    "write_blocks"};
 
 static result pack(boltmarrow_answer a) {
     result r = {a.refusal, {a.value}};
@@ -159,6 +160,8 @@ static result library(const call *c, copies l) {
         return pack(boltmarrow_cost_fill(G, T(0)));
     case MIN_SENTENCE_COST:
         return pack(boltmarrow_min_sentence_cost(G, rule, T(0)));
+    case DEAREST_FILL:
+        return pack(boltmarrow_dearest_fill(G, T(0)));
     case REACHED_FILL:
         return pack(boltmarrow_reached_fill(G, T(0)));
     case FOLLOW_CLEAR:
@@ -353,6 +356,10 @@ static void begin(uint16_t rules, size_t tokens, uint8_t cost) {
 
 static void add(uint16_t symbol) { symbols[g.symbols_len++] = symbol; }
 
+static void add_times(uint16_t symbol, size_t times) {
+    for (size_t i = 0; i < times; i++) add(symbol);
+}
+
 static void end(uint16_t owner) {
     owners[g.prods++] = owner;
     starts[g.starts_len++] = (uint16_t)g.symbols_len;
@@ -490,6 +497,15 @@ static void cost_is(uint16_t rule, uint32_t refusal, uint32_t value) {
     fill(COST_FILL);
     expect("COST", words[0][rule], refusal == 12 ? BOLTMARROW_COST_UNKNOWN : refusal ? BOLTMARROW_COST_DEAR : value);
 }
+
+/* DEAREST of the grammar at hand, of each rule. */
+static void dearest_is(const uint32_t *entries) {
+    call c = make(DEAREST_FILL);
+    expect("DEAREST's refusal", run(&c).refusal, 0);
+    for (size_t r = 0; r < g.rules; r++) expect("DEAREST", words[0][r], entries[r]);
+}
+
+#define DEAREST_IS(...) dearest_is((const uint32_t[]){__VA_ARGS__})
 
 static void sentence_is(uint16_t rule, size_t room, uint32_t refusal, uint32_t length) {
     call c = make(MIN_SENTENCE);
@@ -688,6 +704,7 @@ static void g1(void) {
     }
     fill(PRODUCTIVE_FILL);
     expect("G1 PRODUCTIVE", rule_row(0), 15);
+    DEAREST_IS(4, 4, 1, 2);
     sentence_is(0, 100, 0, 1);
     expect("G1 sentence", output[0], 0);
     sentence_is(2, 0, 0, 0);
@@ -714,6 +731,7 @@ static void g2(void) {
     PROD(3, 1);
     prod(3, NULL, 0);
     follow_is(2, 6);
+    DEAREST_IS(3, 3, 1, 1);
     passes();
     jobs();
 }
@@ -729,6 +747,7 @@ static void g3_and_g4(void) {
     path_is(1, 1, 1);
     path_is(0, 0, 0);
     path_is(0, 1, 1);
+    DEAREST_IS(1, 1);
     clash_is(1, 1, 2, 0);
     jobs();
 
@@ -737,6 +756,7 @@ static void g3_and_g4(void) {
     PROD(1, R(1), 0);
     first_is(1, 0);
     cost_is(1, 12, 0);
+    DEAREST_IS(BOLTMARROW_DEAREST_NONE, BOLTMARROW_DEAREST_NONE);
     sentence_is(1, 100, 12, 0);
     passes();
     jobs();
@@ -747,12 +767,12 @@ static void g5_and_g6(void) {
         begin(2, 3, 255);
         costs[1] = 1;
         PROD(0, R(1));
-        for (int i = 0; i < (which ? 258 : 257); i++) add(0);
-        end(1);
+        add_times(0, which ? 258 : 257), end(1);
         if (which == 2) PROD(1, 1);
         cost_is(1, which == 1 ? 13 : 0, which == 0 ? 65535 : which == 1 ? 0 : 1);
         sentence_is(1, 300, which == 1 ? 13 : 0, which == 0 ? 257 : which == 1 ? 0 : 1);
         sentence_is(1, 256, which == 0 ? 15 : which == 1 ? 13 : 0, which == 2);
+        DEAREST_IS(BOLTMARROW_DEAREST_ABOVE, BOLTMARROW_DEAREST_ABOVE);
         passes();
         jobs();
     }
@@ -764,6 +784,7 @@ static void g5_and_g6(void) {
     cost_is(1, 0, 1);
     sentence_is(1, 100, 0, 1);
     expect("G6 sentence", output[0], 1);
+    DEAREST_IS(BOLTMARROW_DEAREST_UNBOUNDED, BOLTMARROW_DEAREST_UNBOUNDED);
     passes();
     jobs();
 }
@@ -784,10 +805,8 @@ static void dear_and_unknown(void) {
     static const uint32_t unknowns[] = {UNKNOWN_ONE, 65538, 70000, 0x80000000, 0xFFFFFFFF};
     begin(4, 2, 255);
     PROD(0, R(1)), PROD(1, R(2), R(3)), PROD(1, R(3), R(2));
-    for (int i = 0; i < 258; i++) add(0);
-    add(R(3)), end(1);
-    for (int i = 0; i < 257; i++) add(0);
-    end(1), PROD(2, 0), PROD(3, 0);
+    add_times(0, 258), add(R(3)), end(1);
+    add_times(0, 257), end(1), PROD(2, 0), PROD(3, 0);
     clash_is(1, 1, 2, 0);
     jobs();
     for (int i = 0; i < 5; i++) {
@@ -844,6 +863,7 @@ static void exports(void) {
     }
     fill(PRODUCTIVE_FILL);
     expect("exports: PRODUCTIVE", rule_row(0), 31);
+    DEAREST_IS(6, 6, 3, 1, 1);
     sentence_is(0, 2, 0, 2);
     expect("exports: sentence", output[0] * 10 + output[1], 12);
     sentence_is(0, 1, 15, 0);
@@ -892,6 +912,7 @@ static void dead_visit(uint16_t prod, uint32_t reached, uint32_t a, uint32_t cha
 static void dead(void) {
     static const uint32_t follow[] = {4, 4, 4, 0};
     begin_dead();
+    DEAREST_IS(1, 1, 1, 2);
     passes();
     jobs();
     reached_is(7);
@@ -961,6 +982,12 @@ static uint32_t house_cost_of(uint16_t rule) {
     return house_entry(rule, 46, 3, fields, rest);
 }
 
+/* Every value that there can be: 9 of the stamp, 11 of each room, the newline. */
+static uint32_t house_dearest_of(uint16_t rule) {
+    static const uint32_t fields[] = {4, 3, 1}, rest[] = {9, 5, 3, 4, 3, 1, 1, 2};
+    return house_entry(rule, 142, 11, fields, rest);
+}
+
 /* The header's numbers, and the grammar through the calls on any. */
 static void house_grammar(void) {
     static const uint32_t rules[] = {BOLTMARROW_HOUSE_STAMP, BOLTMARROW_HOUSE_DATE, BOLTMARROW_HOUSE_TIME,
@@ -987,6 +1014,8 @@ static void house_grammar(void) {
     jobs();
     sentence_is(0, BOLTMARROW_HOUSE_ROW_LENGTH, 0, 46);
     count_is(0, 0, 1, 1);
+    fill(DEAREST_FILL);
+    for (uint16_t r = 0; r < 58; r++) expect("house: DEAREST", words[0][r], house_dearest_of(r));
 }
 
 /* FIRST and EMPTY, by words and by queries. */
@@ -1124,6 +1153,137 @@ static void lengths(void) {
     }
 }
 
+/* The dearest sentences, where the source settles too early, counts productions without a sentence, or takes a loop of
+ * no cost for one without bound. Tokens cost 1 where nothing is said. */
+static void dearest_differences(void) {
+    enum { UNBOUNDED_ONE = BOLTMARROW_DEAREST_UNBOUNDED, NO_ONE = BOLTMARROW_DEAREST_NONE };
+    /* A: a; A: B; B: a a; then S: x; S: B; B: y y y, with S below B and above it */
+    begin(3, 2, 1), PROD(0, R(1)), PROD(1, 0), PROD(1, R(2)), PROD(2, 0, 0), DEAREST_IS(2, 2, 2);
+    begin(3, 3, 1), PROD(0, R(1)), PROD(1, 0), PROD(1, R(2)), PROD(2, 1, 1, 1), DEAREST_IS(3, 3, 3);
+    begin(3, 3, 1), PROD(0, R(2)), PROD(2, 0), PROD(2, R(1)), PROD(1, 1, 1, 1), DEAREST_IS(3, 3, 3);
+    /* A: A; then A: a a; A: a B a; B: B a */
+    begin(2, 2, 1), PROD(0, R(1)), PROD(1, R(1)), DEAREST_IS(NO_ONE, NO_ONE);
+    begin(3, 2, 1), PROD(0, R(1)), PROD(1, 0, 0), PROD(1, 0, R(2), 0), PROD(2, R(2), 0), DEAREST_IS(2, 2, NO_ONE);
+    /* A: A; A: nothing; then A: A x; A: x and A: A A; A: x, x being free, and not */
+    begin(2, 2, 1), PROD(0, R(1)), PROD(1, R(1)), prod(1, NULL, 0), DEAREST_IS(0, 0);
+    begin(2, 2, 0), PROD(0, R(1)), PROD(1, R(1), 0), PROD(1, 0), DEAREST_IS(0, 0);
+    costs[0] = 1, DEAREST_IS(UNBOUNDED_ONE, UNBOUNDED_ONE);
+    begin(2, 2, 0), PROD(0, R(1)), PROD(1, R(1), R(1)), PROD(1, 0), DEAREST_IS(0, 0);
+    costs[0] = 1, DEAREST_IS(UNBOUNDED_ONE, UNBOUNDED_ONE);
+    /* A: nothing; B: C; C: B A; C: nothing: as long as A cannot cost something */
+    begin(4, 2, 1), PROD(0, R(2)), prod(1, NULL, 0), PROD(2, R(3)), PROD(3, R(2), R(1)), prod(3, NULL, 0);
+    DEAREST_IS(0, 0, 0, 0);
+    PROD(1, 0), DEAREST_IS(UNBOUNDED_ONE, 1, UNBOUNDED_ONE, UNBOUNDED_ONE);
+    /* the way round through a production without a sentence: A: a; A: B a; B: A N; B: a a; N: N */
+    begin(4, 2, 1), PROD(0, R(1)), PROD(1, 0), PROD(1, R(2), 0), PROD(2, R(1), R(3)), PROD(2, 0, 0), PROD(3, R(3));
+    DEAREST_IS(3, 3, 2, NO_ONE);
+    /* two exports, and what is dearer is the second */
+    begin(3, 2, 1), PROD(0, R(1)), PROD(0, R(2)), PROD(1, 0), PROD(2, 0, 0), DEAREST_IS(2, 1, 2);
+}
+
+/* Sums around 65534. */
+static void dearest_sums(void) {
+    enum { MAX = BOLTMARROW_DEAREST_MAX, ABOVE_ONE = BOLTMARROW_DEAREST_ABOVE };
+    for (uint32_t ones = 253; ones < 257; ones++) {
+        /* A: 256 tokens of 255 and so many of 1 */
+        uint32_t due = ones < 255 ? 65280 + ones : ABOVE_ONE;
+        begin(2, 3, 1), costs[0] = 255, PROD(0, R(1)), add_times(0, 256), add_times(1, ones), end(1);
+        DEAREST_IS(due, due);
+    }
+    for (uint32_t ones = 127; ones < 129; ones++) {
+        /* A: B B; B: 128 tokens of 255 and so many of 1 */
+        uint32_t due = ones < 128 ? MAX : ABOVE_ONE;
+        begin(3, 3, 1), costs[0] = 255, PROD(0, R(1)), PROD(1, R(2), R(2));
+        add_times(0, 128), add_times(1, ones), end(2), DEAREST_IS(due, due, 32640 + ones);
+    }
+    /* A: B b; B: 65534, and b is free, and not */
+    begin(3, 4, 1), costs[0] = 255, costs[2] = 0, PROD(0, R(1)), PROD(1, R(2), 2);
+    add_times(0, 256), add_times(1, 254), end(2), DEAREST_IS(MAX, MAX, MAX);
+    costs[2] = 1, DEAREST_IS(ABOVE_ONE, ABOVE_ONE, MAX);
+    /* A: B 16127 times, the most that finds room; B: 256 tokens of 255 */
+    begin(3, 2, 255), PROD(0, R(1)), add_times(R(2), 16127), end(1), add_times(0, 256), end(2);
+    expect("symbols", g.symbols_len, 16384);
+    DEAREST_IS(ABOVE_ONE, ABOVE_ONE, 65280);
+}
+
+/* A: nothing; B: 257 tokens of 255, so above; C: C a; C: a, without bound; N: N, no sentence. */
+static void begin_beaten(void) {
+    begin(5, 2, 255), PROD(0, R(1)), prod(1, NULL, 0), add_times(0, 257), end(2);
+    PROD(3, R(3), 0), PROD(3, 0), PROD(4, R(4));
+}
+
+/* A has this by what it was given besides. */
+static void beaten_is(uint32_t due) {
+    DEAREST_IS(due, due, BOLTMARROW_DEAREST_ABOVE, BOLTMARROW_DEAREST_UNBOUNDED, BOLTMARROW_DEAREST_NONE);
+}
+
+/* In a sum no sentence beats no bound, and no bound beats above; a production without a sentence does not count. */
+static void dearest_orders(void) {
+    enum { UNBOUNDED_ONE = BOLTMARROW_DEAREST_UNBOUNDED, ABOVE_ONE = BOLTMARROW_DEAREST_ABOVE };
+    begin_beaten(), beaten_is(0);
+    begin_beaten(), PROD(1, R(2)), beaten_is(ABOVE_ONE);
+    PROD(1, R(3)), beaten_is(UNBOUNDED_ONE);
+    begin_beaten(), PROD(1, R(3)), PROD(1, R(2)), beaten_is(UNBOUNDED_ONE);
+    begin_beaten(), PROD(1, R(2), R(3)), beaten_is(UNBOUNDED_ONE);
+    begin_beaten(), PROD(1, R(3), R(2)), beaten_is(UNBOUNDED_ONE);
+    begin_beaten(), PROD(1, R(2), R(3), R(4)), PROD(1, R(4), R(3), R(2)), PROD(1, R(3), R(4), R(2)), beaten_is(0);
+    PROD(1, R(2)), beaten_is(ABOVE_ONE);
+    /* however slowly, C comes to more than B: A: B; A: C; B: 256 tokens of 255; C: C b; C: b, and b costs 1 */
+    begin(4, 3, 1), costs[0] = 255, PROD(0, R(1)), PROD(1, R(2)), PROD(1, R(3)), add_times(0, 256), end(2);
+    PROD(3, R(3), 1), PROD(3, 1), DEAREST_IS(UNBOUNDED_ONE, UNBOUNDED_ONE, 65280, UNBOUNDED_ONE);
+    costs[1] = 0, DEAREST_IS(65280, 65280, 65280, 0);
+}
+
+/* 500 rules, each twice the next, and behind them a token, the first rule again, or both. */
+static void dearest_doublings(void) {
+    static uint32_t due[512];
+    for (int how = 0; how < 4; how++) {
+        begin(502, 2, how != 1), PROD(0, R(1));
+        for (uint16_t r = 1; r < 501; r++) PROD(r, R(r + 1), R(r + 1));
+        if (how < 3) PROD(501, 0);
+        if (how > 1) PROD(501, R(1));
+        for (uint32_t r = 0; r < 502; r++) {
+            uint32_t once = r > 485 ? 1u << (501 - r) : BOLTMARROW_DEAREST_ABOVE;
+            uint32_t some[] = {once, 0, BOLTMARROW_DEAREST_UNBOUNDED, BOLTMARROW_DEAREST_NONE};
+            due[r] = some[how];
+        }
+        dearest_is(due);
+    }
+}
+
+/* 511 rules in a row, each of them a and the next one, the last a; some with a way out too, of nothing. */
+static void dearest_row(uint8_t cost, int down, int outs) {
+    static uint32_t due[512];
+    begin(512, 2, cost), PROD(0, R(down ? 511 : 1));
+    for (uint16_t r = 1; r < 512; r++) {
+        uint32_t left = down ? r : 512u - r;
+        add(0);
+        if (left > 1) add((uint16_t)R(down ? r - 1 : r + 1));
+        end(r);
+        if (outs) prod(r, NULL, 0);
+        due[r] = left * cost < BOLTMARROW_DEAREST_UNBOUNDED ? left * cost : BOLTMARROW_DEAREST_ABOVE;
+    }
+    due[0] = due[down ? 511 : 1];
+    dearest_is(due);
+}
+
+/* 511 rules in a ring, each the next one; one has a way out besides, and then goes on to the next one at a cost. */
+static void dearest_ring(int down) {
+    static uint32_t due[512];
+    begin(512, 2, 1), PROD(0, R(1));
+    for (uint16_t r = 1; r < 512; r++) PROD(r, (uint16_t)R(down ? (r + 509) % 511 + 1 : r % 511 + 1));
+    clear(due, 512, BOLTMARROW_DEAREST_NONE), dearest_is(due);
+    PROD(300, 0, 0, 0), clear(due, 512, 3), dearest_is(due);
+    PROD(300, (uint16_t)R(down ? 299 : 301), 0), clear(due, 512, BOLTMARROW_DEAREST_UNBOUNDED), dearest_is(due);
+}
+
+/* Rows and rings numbered up and down. In a row of cost 1 each rule's entry is one above the next one's. */
+static void dearest_rows_and_rings(void) {
+    for (int how = 0; how < 8; how++) dearest_row(how & 4 ? 255 : 1, how & 1, how & 2);
+    dearest_ring(0);
+    dearest_ring(1);
+}
+
 /* The least clash by rule, lower production, higher production, token. */
 static void profile_orders(void) {
     /* A: a; A: b; A: b; A: c; A: d; A: a; start: A: 0 and 5 before 1 and 2, whatever their tokens */
@@ -1220,8 +1380,7 @@ static void lists_of_rules(void) {
     begin(3, 2, 255), PROD(0, R(1)), PROD(1, R(1)), PROD(2, R(1));
     count_is(2, 12, 0, CIRCULAR), row_refused(2, 0, 0, 12);
     begin(2, 2, 255), PROD(0, R(1));
-    for (int i = 0; i < 258; i++) add(0);
-    end(1), count_is(1, 13, 0, CIRCULAR), row_refused(1, 0, 0, 13);
+    add_times(0, 258), end(1), count_is(1, 13, 0, CIRCULAR), row_refused(1, 0, 0, 13);
 }
 
 /* A: B C, of so many rows by productions of nothing, and one row of f more, f being free. */
@@ -1818,6 +1977,31 @@ static void random_profiles(int grammars) {
     expect("profiles that name T", none_shared > 0, 1);
 }
 
+/* Which of four an entry of DEAREST is: a cost, without bound, no sentence, above. */
+static int dearest_kind(uint32_t entry) {
+    return entry == BOLTMARROW_DEAREST_UNBOUNDED ? 1
+           : entry == BOLTMARROW_DEAREST_NONE    ? 2
+           : entry == BOLTMARROW_DEAREST_ABOVE   ? 3
+                                                 : 0;
+}
+
+/* DEAREST of random grammars, entries of each kind, filled again over what it left; and of a grammar at the limits. */
+static void random_dearest(int grammars) {
+    int seen[4] = {0};
+    for (int n = 0; n < grammars; n++) {
+        random_grammar();
+        if (check_of(&g)) continue;
+        call c = make(DEAREST_FILL);
+        run(&c);
+        for (size_t r = 0; r < g.rules; r++) seen[dearest_kind(words[0][r])]++;
+        run(&c);
+    }
+    for (int kind = 0; kind < 4; kind++) expect("entries of a kind", seen[kind] > grammars / 8, 1);
+    limits();
+    fill(DEAREST_FILL);
+    for (size_t r = 0; r < g.rules; r++) expect("DEAREST at the limits", words[0][r] <= BOLTMARROW_DEAREST_MAX, 1);
+}
+
 int main(void) {
     expect("fences", (uint64_t)build_fences(), 1);
     g1();
@@ -1830,6 +2014,11 @@ int main(void) {
     dead();
     house_export();
     lengths();
+    dearest_differences();
+    dearest_sums();
+    dearest_orders();
+    dearest_doublings();
+    dearest_rows_and_rings();
     profile_orders();
     profile_vanishing();
     profile_tokens();
@@ -1848,6 +2037,7 @@ int main(void) {
     random_calls(4000);
     random_jobs(100);
     random_profiles(1000);
+    random_dearest(1000);
     printf("test: %lu calls, %lu checks, %lu wrong\n", calls, checks, wrong);
     return wrong != 0;
 }

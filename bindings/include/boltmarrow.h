@@ -1,6 +1,6 @@
-/* Boltmarrow: FIRST, EMPTY, FOLLOW, paths, minimum costs and the cheapest sentences of a flat
- * grammar, and whether one token is enough to read it. One grammar is built in, the house export's:
- * its calls, boltmarrow_house_.., stand at the end.
+/* Boltmarrow: FIRST, EMPTY, FOLLOW, paths, minimum costs, the cheapest sentences and the cost of the
+ * dearest ones of a flat grammar, and whether one token is enough to read it. One grammar is built
+ * in, the house export's: its calls, boltmarrow_house_.., stand at the end.
  *
  * A grammar is R rules (`rules`); owners (P numbers); starts (P+1 numbers); symbols (N numbers);
  * token costs (T bytes). P, N and T are the lists' lengths. Production p is symbols starts[p] up
@@ -31,7 +31,10 @@
  * longer than 65535, 65537 if the rule is ungrounded (its choice is circular) or has no cost. The
  * counts are R numbers, how many cheapest sentences each rule has: 65536 for more than 65535, 65537
  * if the rule is circular through cheapest productions (14 of the calls on all cheapest sentences)
- * or has no cost. The constants below name these numbers.
+ * or has no cost. DEAREST is R numbers, the greatest cost of a sentence of each rule, 0 to 65534; or
+ * 65535 where the costs of its sentences are without bound, 65536 where it has no sentence, 65537
+ * where the greatest cost is above 65534: not what these three are in COST. The constants below name
+ * these numbers.
  *
  * Stack. boltmarrow_min_sentence takes up to 110 KB: 208 bytes for each level of rules in rules, of
  * which there are at most 512. boltmarrow_count_min_sentences takes up to 170 KB, 276 bytes a level,
@@ -161,6 +164,13 @@ typedef struct {
 #define BOLTMARROW_COUNT_MANY 65536u
 #define BOLTMARROW_COUNT_NONE 65537u
 
+/* an entry of DEAREST: up to MAX the greatest cost; UNBOUNDED: whatever the number, some sentence
+ * costs as much; NONE: no sentence; ABOVE: the greatest cost is above MAX */
+#define BOLTMARROW_DEAREST_MAX 65534u
+#define BOLTMARROW_DEAREST_UNBOUNDED 65535u
+#define BOLTMARROW_DEAREST_NONE 65536u
+#define BOLTMARROW_DEAREST_ABOVE 65537u
+
 /* the five parameters of a grammar */
 #define BOLTMARROW_GRAMMAR                                                                         \
     uint16_t rules, const uint16_t *owners, size_t owners_len, const uint16_t *starts,             \
@@ -215,6 +225,12 @@ boltmarrow_answer boltmarrow_cost_fill(BOLTMARROW_GRAMMAR, uint32_t *cost, size_
  * follow: its entry is BOLTMARROW_COST_UNKNOWN or BOLTMARROW_COST_DEAR. */
 boltmarrow_answer boltmarrow_min_sentence_cost(BOLTMARROW_GRAMMAR, boltmarrow_ridx rule,
                                                uint32_t *cost, size_t cost_len);
+
+/* DEAREST: the greatest cost of a sentence of each rule, whatever was there. Productions that derive
+ * no sentence do not count, and a loop that adds no cost does not make a rule unbounded: A: A;
+ * A: nothing has 0. It has no visits, and no job fills it. Refusals 1 to 7. */
+boltmarrow_answer boltmarrow_dearest_fill(BOLTMARROW_GRAMMAR, uint32_t *dearest,
+                                          size_t dearest_len);
 
 /* The reached row: rule 0 and the rules that have a path from it, whatever was there. All other
  * rules are dead: they stand in no form that rule 0 derives. Refusals 1 to 7. */

@@ -6,7 +6,8 @@
 //!
 //! Before a grammar is timed the three are held to each other: FIRST, EMPTY, FOLLOW and the costs, in the Rust FOLLOW only
 //! where no rule can vanish and none is dead, since elsewhere it makes another table, and the costs only where it returns;
-//! the reached row, which the Rust has not, C and the library.
+//! the reached row, which the Rust has not, C and the library. DEAREST, which C has not, is timed beside the Rust's
+//! greatest costs where these do not panic; the two are not held to each other, since they differ in places.
 mod clock;
 mod grammars;
 mod plain;
@@ -14,6 +15,7 @@ mod plain;
 mod text;
 
 use std::hint::black_box;
+use std::panic::{AssertUnwindSafe, catch_unwind};
 use std::process::Command;
 use std::thread::sleep;
 use std::time::{Duration, Instant};
@@ -43,6 +45,12 @@ fn built(given: &Given) -> (YaccGrammar<u16>, Grammar) {
 fn rust_costs(grm: &YaccGrammar<u16>, costs: &[u8]) -> Vec<u16> {
     let sentences = grm.sentence_generator(|tidx| costs[usize::from(tidx)]);
     grm.iter_rules().map(|ridx| sentences.min_sentence_cost(ridx)).collect()
+}
+
+/// The crate's greatest costs, of all rules at once too.
+fn rust_dearest(grm: &YaccGrammar<u16>, costs: &[u8]) -> Vec<Option<u16>> {
+    let sentences = grm.sentence_generator(|tidx| costs[usize::from(tidx)]);
+    grm.iter_rules().map(|ridx| sentences.max_sentence_cost(ridx)).collect()
 }
 
 /// Takes a call's answer, so that no call is left out.
@@ -124,21 +132,18 @@ fn microseconds(seconds: f64) -> String {
     format!("{:.2}", seconds * 1e6)
 }
 
+/// A call to time, where there is one.
+type Timed<'a> = Option<&'a mut dyn FnMut()>;
+
 /// A line of the first table: least times, and what they are divided by each other.
-fn line(name: &str, what: &str, rust: Option<&mut dyn FnMut()>, plain: &mut dyn FnMut(), ours: &mut dyn FnMut()) {
-    let (rust, plain, ours) = match rust {
-        Some(rust) => {
-            let [rust, plain, ours] = turns([rust, plain, ours]);
-            (Some(rust.least), plain.least, ours.least)
-        }
-        None => {
-            let [plain, ours] = turns([plain, ours]);
-            (None, plain.least, ours.least)
-        }
-    };
-    let times = [plain, ours].map(microseconds).join(" | ");
-    let beside = rust.map_or("".into(), |rust| format!("{:.2}", rust / ours));
-    println!("| {name} | {what} | {} | {times} | {:.2} | {beside} |", rust.map_or("".into(), microseconds), ours / plain);
+fn line<'a>(name: &str, what: &str, rust: Timed<'a>, plain: Timed<'a>, ours: &'a mut dyn FnMut()) {
+    let [has_rust, has_plain] = [rust.is_some(), plain.is_some()];
+    let mut times = turns(rust.into_iter().chain(plain).chain([ours]).collect()).into_iter().map(|times| times.least);
+    let [rust, plain, ours] = [has_rust, has_plain, true].map(|has| if has { times.next() } else { None });
+    let shown = [rust, plain, ours].map(|seconds| seconds.map_or("".into(), microseconds)).join(" | ");
+    let divided =
+        |one: Option<f64>, by: Option<f64>| one.zip(by).map_or("".into(), |(one, by)| format!("{:.2}", one / by));
+    println!("| {name} | {what} | {shown} | {} | {} |", divided(ours, plain), divided(rust, ours));
 }
 
 fn fills(place: usize, given: &Given) {
@@ -148,18 +153,23 @@ fn fills(place: usize, given: &Given) {
     hold_marks(grm, flat);
     hold_plain(&plain, flat);
     let mut check = check_alone(flat);
-    line(name, "check", None, &mut || keep(plain.check()), &mut check);
-    line(name, "FIRST", Some(&mut || keep(grm.firsts())), &mut || keep(plain.firsts()), &mut || keep(flat.firsts()));
-    line(name, "reached rules", None, &mut || keep(plain.reached()), &mut || keep(flat.reached()));
+    line(name, "check", None, Some(&mut || keep(plain.check())), &mut check);
+    let mut rust = || keep(grm.firsts());
+    line(name, "FIRST", Some(&mut rust), Some(&mut || keep(plain.firsts())), &mut || keep(flat.firsts()));
+    line(name, "reached rules", None, Some(&mut || keep(plain.reached())), &mut || keep(flat.reached()));
     let mut rust = || keep(grm.follows());
-    line(name, "FOLLOW", Some(&mut rust), &mut || keep(plain.follows()), &mut || keep(flat.follows()));
+    line(name, "FOLLOW", Some(&mut rust), Some(&mut || keep(plain.follows())), &mut || keep(flat.follows()));
     let returns = costs_return(place);
     if returns {
         hold_costs(grm, flat, &given.costs);
     }
     let mut rust = || keep(rust_costs(grm, &given.costs));
-    let rust: Option<&mut dyn FnMut()> = if returns { Some(&mut rust) } else { None };
-    line(name, "COST", rust, &mut || keep(plain.costs()), &mut || keep(flat.costs()));
+    let rust: Timed = if returns { Some(&mut rust) } else { None };
+    line(name, "COST", rust, Some(&mut || keep(plain.costs())), &mut || keep(flat.costs()));
+    let mut rust = || keep(rust_dearest(grm, &given.costs));
+    let returns = catch_unwind(AssertUnwindSafe(&mut rust)).is_ok();
+    let rust: Timed = if returns { Some(&mut rust) } else { None };
+    line(name, "DEAREST", rust, None, &mut || keep(flat.dearest()));
 }
 
 /// One call of each kind on the grammar, in turn with the check alone. A visit takes the productions in turn, on a
@@ -195,9 +205,9 @@ fn check_alone(flat: &Grammar) -> impl FnMut() {
 }
 
 fn check_line(flat: &Grammar, what: &str, call: &mut dyn FnMut()) {
-    let [call, check] = turns([call, &mut check_alone(flat)]);
+    let times = turns(vec![call, &mut check_alone(flat)]);
     let shown = |times: &Times| [times.least, times.median].map(microseconds).join(" | ");
-    println!("| {what} | {} | {} | {:.2} |", shown(&call), shown(&check), call.least / check.least);
+    println!("| {what} | {} | {} | {:.2} |", shown(&times[0]), shown(&times[1]), times[0].least / times[1].least);
 }
 
 fn tables(given: &[Given]) {

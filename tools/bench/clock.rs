@@ -65,8 +65,8 @@ impl<'a> Sampled<'a> {
 }
 
 /// The times of some calls, whose samples take turns so that a slow moment of the machine meets all of them.
-pub fn turns<const N: usize>(calls: [&mut dyn FnMut(); N]) -> [Times; N] {
-    let mut sampled = calls.map(Sampled::new);
+pub fn turns(calls: Vec<&mut dyn FnMut()>) -> Vec<Times> {
+    let mut sampled: Vec<Sampled> = calls.into_iter().map(Sampled::new).collect();
     let start = used();
     for samples in 1..=MOST_SAMPLES {
         for one in &mut sampled {
@@ -77,5 +77,5 @@ pub fn turns<const N: usize>(calls: [&mut dyn FnMut(); N]) -> [Times; N] {
             break;
         }
     }
-    sampled.map(Sampled::times)
+    sampled.into_iter().map(Sampled::times).collect()
 }

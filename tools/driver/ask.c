@@ -1,8 +1,8 @@
 /* Asks the library about flat grammars: standard input has one a line, and standard output a line of JSON for each.
  * Both have the form of tools/oracle/oracle.rs, with these differences: "costs" has an outcome for each rule,
- * "reached" is the reached row, "profile" the five numbers of the verdict, "counts" has an outcome for each rule, how
- * many cheapest sentences it has, and an outcome is {"returned": [number..]} or {"refused": number}. A refused grammar
- * has the outcome of boltmarrow_check alone.
+ * "dearest" is a number for each rule, as DEAREST has it, "reached" is the reached row, "profile" the five numbers of
+ * the verdict, "counts" has an outcome for each rule, how many cheapest sentences it has, and an outcome is
+ * {"returned": [number..]} or {"refused": number}. A refused grammar has the outcome of boltmarrow_check alone.
  */
 #include <stdio.h>
 
@@ -15,7 +15,7 @@ static uint16_t owners[PRODS], starts[PRODS + 1], symbols[SYMBOLS];
 static uint8_t costs[TOKENS];
 static uint32_t first[RULES * TOKENS / 32], follow[RULES * TOKENS / 32];
 static uint32_t empty[RULES / 32], reached[RULES / 32];
-static uint32_t prices[RULES], lengths[RULES], counts[RULES];
+static uint32_t prices[RULES], dearest[RULES], lengths[RULES], counts[RULES];
 static uint16_t sentence[ROOM];
 static uint32_t listed; /* so many rules have their lists asked for */
 static uint16_t lists[RULES];
@@ -128,6 +128,13 @@ static void print_costs(void) {
     printf("],");
 }
 
+static void print_dearest(void) {
+    boltmarrow_dearest_fill(GRAMMAR, dearest, rules);
+    printf("\"dearest\":[");
+    for (uint32_t r = 0; r < rules; r++) printf("%s%u", comma(r), dearest[r]);
+    printf("],");
+}
+
 static void print_tokens(uint32_t length) {
     printf("[");
     for (uint32_t k = 0; k < length; k++) printf("%s%u", comma(k), sentence[k]);
@@ -213,6 +220,7 @@ static int answer(void) {
     print_paths();
     print_beyond();
     print_costs();
+    print_dearest();
     print_sentences();
     print_counts();
     int whole = print_lists();

@@ -58,6 +58,7 @@ CALL(cost_clear, GRAMMAR, WORDS(4))
 CALL(cost_visit, GRAMMAR, PIDX(1), WORDS(4))
 CALL(cost_fill, GRAMMAR, WORDS(4))
 CALL(min_sentence_cost, GRAMMAR, RIDX(1), WORDS(4))
+CALL(dearest_fill, GRAMMAR, WORDS(4))
 CALL(reached_fill, GRAMMAR, WORDS(4))
 CALL(follow_clear, GRAMMAR, WORDS(4))
 CALL(follow_visit, GRAMMAR, NUMBER(1), PIDX(2), WORDS(4), WORDS(5), WORDS(6), WORDS(7))
@@ -113,6 +114,7 @@ static const struct {
     {cost_visit, "nhhhbnw"},
     {cost_fill, "nhhhbw"},
     {min_sentence_cost, "nhhhbnw"},
+    {dearest_fill, "nhhhbw"},
     {reached_fill, "nhhhbw"},
     {follow_clear, "nhhhbw"},
     {follow_visit, "nhhhbnnwwww"},

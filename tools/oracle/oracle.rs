@@ -7,13 +7,14 @@
 //! Standard output has one line of JSON for each:
 //!
 //!     {"first": [[token..]..], "empty": [0 or 1..], "follow": [[token..]..], "path": [[0 or 1..]..],
-//!      "beyond": [OUTCOME..], "costs": OUTCOME, "sentences": [OUTCOME..], "lists": [OUTCOME..]}
+//!      "beyond": [OUTCOME..], "dearest": OUTCOME, "costs": OUTCOME, "sentences": [OUTCOME..], "lists": [OUTCOME..]}
 //!
 //! with an entry for each rule, and an outcome of {"returned": [number..]}, {"panicked": "message"}, "out of time" or
-//! "out of memory". The lists are what `min_sentences` gives for the rules named: an entry for each of these, which has a
-//! list of lists. Beyond the numbers are production P, the path from rule R to 0 and that from 0 to R. Costs, sentences
-//! and lists are asked in child processes. A child answers one question after the other until one of them runs out of
-//! the limits below; the next child goes on behind it. `oracle TIMES` gives so many times the time.
+//! "out of memory". In "dearest", which has what `max_sentence_cost` gives, null stands for `None`. The lists are what
+//! `min_sentences` gives for the rules named: an entry for each of these, which has a list of lists. Beyond the numbers
+//! are production P, the path from rule R to 0 and that from 0 to R. Dearest, costs, sentences and lists are asked in
+//! child processes. A child answers one question after the other until one of them runs out of the limits below; the next
+//! child goes on behind it. `oracle TIMES` gives so many times the time.
 mod text;
 
 use std::fmt::{Debug, Display};
@@ -134,16 +135,17 @@ fn answer(flat: &Flat, times: u32) -> String {
     let follow = listed(rules().map(|r| held(tokens, |t| follows.is_set(r, TIdx(t)))));
     let path = listed(rules().map(|a| listed(rules().map(|b| grm.has_path(a, b) as u8))));
     let mut outcomes = outcomes(&grm, flat, times);
-    let lists = outcomes.split_off(1 + usize::from(flat.rules));
-    let costs = outcomes.remove(0);
+    let lists = outcomes.split_off(FIRST_SENTENCE + usize::from(flat.rules));
+    let sentences = outcomes.split_off(FIRST_SENTENCE);
     let entries = [
         ("first", first),
         ("empty", empty),
         ("follow", follow),
         ("path", path),
         ("beyond", listed(beyond(&grm, flat).into_iter())),
-        ("costs", costs),
-        ("sentences", listed(outcomes.into_iter())),
+        ("dearest", outcomes[DEAREST].clone()),
+        ("costs", outcomes[COSTS].clone()),
+        ("sentences", listed(sentences.into_iter())),
         ("lists", listed(lists.into_iter())),
     ];
     format!("{{{}}}", entries.map(|(name, entry)| format!("\"{name}\":{entry}")).join(","))
@@ -168,12 +170,17 @@ fn caught(question: impl FnOnce() -> String) -> String {
     }
 }
 
-/// The outcomes of the costs, of each rule's sentence, and of the lists asked for.
+// The questions by number: the dearest costs, the costs, each rule's sentence and behind these the lists asked for.
+const DEAREST: usize = 0;
+const COSTS: usize = 1;
+const FIRST_SENTENCE: usize = 2;
+
+/// The outcomes of all questions.
 fn outcomes(grm: &YaccGrammar<u16>, flat: &Flat, times: u32) -> Vec<String> {
     let most = LONGEST.min(QUESTION + SYMBOL * flat.symbols.len() as u32);
     let mut found: Vec<String> = Vec::new();
     while found.len() < questions(flat) {
-        let time = if found.first().is_some_and(|costs| costs == OUT_OF_TIME) { SENTENCE } else { most };
+        let time = if found.get(COSTS).is_some_and(|costs| costs == OUT_OF_TIME) { SENTENCE } else { most };
         let (lines, ended) = Child::start(|| answer_from(found.len(), grm, flat)).finish(time * times);
         found.extend(lines);
         found.extend(ended.map(String::from));
@@ -182,11 +189,10 @@ fn outcomes(grm: &YaccGrammar<u16>, flat: &Flat, times: u32) -> Vec<String> {
 }
 
 fn questions(flat: &Flat) -> usize {
-    1 + usize::from(flat.rules) + flat.listed.len()
+    FIRST_SENTENCE + usize::from(flat.rules) + flat.listed.len()
 }
 
-/// Writes the outcome of each question from that number on: 0 asks for the costs, r + 1 for the sentence of rule r, and
-/// those behind the last rule for the lists.
+/// Writes the outcome of each question from that number on.
 fn answer_from(first: usize, grm: &YaccGrammar<u16>, flat: &Flat) {
     let sentences = grm.sentence_generator(|token| flat.costs[usize::from(token)]);
     for question in first..questions(flat) {
@@ -195,11 +201,16 @@ fn answer_from(first: usize, grm: &YaccGrammar<u16>, flat: &Flat) {
 }
 
 fn asked(question: usize, sentences: &SentenceGenerator<u16>, flat: &Flat) -> String {
+    let rules = || (0..flat.rules).map(RIdx);
+    let number = |cost: Option<u16>| cost.map_or("null".to_string(), |cost| cost.to_string());
     let sentence = |tokens: Vec<TIdx<u16>>| listed(tokens.into_iter().map(|token| token.as_storaget()));
-    match (question.checked_sub(1), question.checked_sub(1 + usize::from(flat.rules))) {
-        (_, Some(k)) => listed(sentences.min_sentences(RIdx(flat.listed[k])).into_iter().map(sentence)),
-        (Some(r), None) => sentence(sentences.min_sentence(RIdx(r as u16))),
-        (None, None) => listed((0..flat.rules).map(|r| sentences.min_sentence_cost(RIdx(r)))),
+    match question {
+        DEAREST => listed(rules().map(|r| number(sentences.max_sentence_cost(r)))),
+        COSTS => listed(rules().map(|r| sentences.min_sentence_cost(r))),
+        _ => match (question - FIRST_SENTENCE).checked_sub(flat.rules.into()) {
+            None => sentence(sentences.min_sentence(RIdx((question - FIRST_SENTENCE) as u16))),
+            Some(k) => listed(sentences.min_sentences(RIdx(flat.listed[k])).into_iter().map(sentence)),
+        },
     }
 }
 

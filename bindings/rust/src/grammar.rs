@@ -3,8 +3,8 @@ use std::io;
 use crate::sys::{self, Flat};
 use crate::table::words;
 use crate::{
-    CostTable, Costs, FirstTable, Firsts, FollowTable, Follows, Job, PIdx, Productive, ProductiveTable, RIdx, Reached,
-    Refusal, SIdx, SentenceGenerator, Symbol, TIdx, Verdict, Version,
+    CostTable, Costs, DearestCosts, FirstTable, Firsts, FollowTable, Follows, Job, PIdx, Productive, ProductiveTable,
+    RIdx, Reached, Refusal, SIdx, SentenceGenerator, Symbol, TIdx, Verdict, Version,
 };
 
 /// The bytes of the largest block file: 98 blocks.
@@ -424,6 +424,11 @@ impl Grammar {
     /// A job that fills COST by slices.
     pub fn cost_job(&self) -> Job<Costs<'_>> {
         CostTable::job(self)
+    }
+
+    /// DEAREST: the cost of each rule's dearest sentence.
+    pub fn dearest(&self) -> DearestCosts<'_> {
+        DearestCosts::filled(self)
     }
 
     /// Cheapest sentences, by this grammar's token costs.

@@ -1,5 +1,6 @@
 //! FIRST, FOLLOW, `has_path`, minimum costs and cheapest sentences of a grammar, by cfgrammar's names, from a library
-//! whose every call is proved to give document 01's tables, to end, and to stay in its lists.
+//! whose every call is proved to give document 01's tables, to end, and to stay in its lists; and the costs of the dearest
+//! sentences.
 //!
 //! A [`Grammar`] owns its flat tables and is checked once, when it is made. All else borrows it, with tables of the
 //! lengths that it needs. What can still be refused is a number that the grammar does not have, or a sentence that is
@@ -28,6 +29,7 @@
 #![warn(clippy::missing_errors_doc)]
 
 mod costs;
+mod dearest;
 mod firsts;
 mod follows;
 mod grammar;
@@ -45,6 +47,7 @@ mod tests;
 mod version;
 
 pub use costs::{Cost, CostTable, Costs, Productive, ProductiveTable};
+pub use dearest::{Dearest, DearestCosts};
 pub use firsts::{FirstTable, Firsts};
 pub use follows::{FollowTable, Follows};
 pub use grammar::Grammar;

@@ -13,6 +13,12 @@ use crate::Refusal;
 pub(crate) const COST_MAX: u32 = 65535;
 pub(crate) const COST_DEAR: u32 = 65536;
 pub(crate) const COST_UNKNOWN: u32 = 65537;
+/// An entry of DEAREST, as in the header: up to this the greatest cost; costs without bound; no sentence; a greatest cost
+/// above the first number.
+pub(crate) const DEAREST_MAX: u32 = 65534;
+pub(crate) const DEAREST_UNBOUNDED: u32 = 65535;
+pub(crate) const DEAREST_NONE: u32 = 65536;
+pub(crate) const DEAREST_ABOVE: u32 = 65537;
 /// The tokens of the longest sentence that is given.
 pub(crate) const LENGTH_MAX: usize = 65535;
 
@@ -184,6 +190,7 @@ exports! {
     boltmarrow_cost_visit = cost_visit(g; prod; cost: u32;;) -> Answer;
     boltmarrow_cost_fill = cost_fill(g;; cost: u32;;) -> Answer;
     boltmarrow_min_sentence_cost = min_sentence_cost(g; rule; cost: u32;;) -> Answer;
+    boltmarrow_dearest_fill = dearest_fill(g;; dearest: u32;;) -> Answer;
     boltmarrow_reached_fill = reached_fill(g;; reached: u32;;) -> Answer;
     boltmarrow_follow_clear = follow_clear(g;; follow: u32;;) -> Answer;
     boltmarrow_follow_visit = follow_visit(g; mode prod; follow: u32; first: u32, empty: u32, reached: u32;) -> Answer;

@@ -32,3 +32,9 @@ pub mod Odometer
 pub mod Numbers
 pub mod ListingExamples
 pub mod Dearer
+pub mod Pumping
+pub mod DearestLevels
+pub mod AddUp
+pub mod Dearest
+pub mod DearestRounds
+pub mod DearestStages

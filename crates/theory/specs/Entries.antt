@@ -1,4 +1,4 @@
--- What a table's numbers mean: the costs, lengths and counts themselves, up to 65535, and two numbers above them.
+-- What a table's numbers mean: the costs, lengths and counts themselves, and the numbers above them.
 use Prim.Native.Nat.{ℕ}
 
 -- COST: 0..65535, 65536 dear, 65537 none known
@@ -30,3 +30,16 @@ countMany = 65536
 
 abbrev pub countNone : ℕ
 countNone = 65537
+
+-- dearest: 0..65534, 65535 for costs without bound, 65536 for no sentence, 65537 for a greatest cost above 65534
+abbrev pub dearestMax : ℕ
+dearestMax = 65534
+
+abbrev pub dearestUnbounded : ℕ
+dearestUnbounded = 65535
+
+abbrev pub dearestNone : ℕ
+dearestNone = 65536
+
+abbrev pub dearestAbove : ℕ
+dearestAbove = 65537

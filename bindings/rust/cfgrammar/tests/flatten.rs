@@ -4,7 +4,7 @@ use std::collections::HashMap;
 use std::fs;
 use std::path::{Path, PathBuf};
 
-use boltmarrow::{Grammar, Refusal, Version};
+use boltmarrow::{Dearest, Grammar, Refusal, Version};
 use boltmarrow_cfgrammar::{flatten, prod, prod_of, rule, rule_of, token, token_of};
 use cfgrammar::yacc::{YaccGrammar, YaccKind, YaccOriginalActionKind};
 
@@ -20,6 +20,12 @@ const NO_COSTS: [&str; 4] = ["g3", "g4", "g5-dear", "g5-either"];
 /// many it has that only a dead rule puts there (docs/DIFFERENCES.md). On all others it is the same.
 const OTHER_FOLLOW: [(&str, [usize; 2]); 5] =
     [("climate", [14, 0]), ("comma", [4, 0]), ("dead", [0, 1]), ("g2", [1, 0]), ("load", [51, 0])];
+
+/// Examples on which `rule_max_costs` panics, and those on which it gives some rules another cost, of how many rules it
+/// does (docs/DIFFERENCES.md). On all others it is the same.
+const NO_DEAREST: [&str; 3] = ["g5", "g5-dear", "g5-either"];
+const OTHER_DEAREST: [(&str, usize); 7] =
+    [("climate", 9), ("csv", 1), ("csv-v2", 1), ("g3", 2), ("g4", 2), ("load", 8), ("rows", 3)];
 
 fn yacc(text: &str) -> YaccGrammar<u16> {
     YaccGrammar::new_with_storaget(KIND, text).expect("a text of the stand-in's form")
@@ -234,6 +240,17 @@ fn costs_are_equal(name: &str, flat: &Grammar, grm: &YaccGrammar<u16>) {
     }
 }
 
+fn dearest_differ_as_said(name: &str, flat: &Grammar, grm: &YaccGrammar<u16>) {
+    let own = grm.sentence_generator(|tidx| flat.token_cost(token(tidx)).unwrap());
+    let dearest = flat.dearest();
+    let differs = |ridx: &cfgrammar::RIdx<u16>| {
+        let theirs = own.max_sentence_cost(*ridx).map_or(Dearest::Unbounded, Dearest::Cost);
+        dearest.cost(rule(*ridx)) != Ok(theirs)
+    };
+    let said = OTHER_DEAREST.into_iter().find(|(other, _)| *other == name);
+    assert_eq!(grm.iter_rules().filter(differs).count(), said.map_or(0, |(_, count)| count), "{name}");
+}
+
 /// All cheapest sentences of each rule that has at most so many, row by row; the crate's repeat nothing.
 fn lists_are_equal(name: &str, flat: &Grammar, grm: &YaccGrammar<u16>) {
     let own = grm.sentence_generator(|tidx| flat.token_cost(token(tidx)).unwrap());
@@ -270,7 +287,8 @@ fn all_cheapest_rows_in_the_grammars_own_names() -> Result<(), Refusal> {
 #[test]
 fn examples_have_the_crates_own_answers() {
     let examples = examples();
-    let named = OTHER_FOLLOW.iter().map(|(name, _)| name).chain(&NO_COSTS);
+    let named = OTHER_FOLLOW.iter().map(|(name, _)| name).chain(OTHER_DEAREST.iter().map(|(name, _)| name));
+    let named = named.chain(&NO_COSTS).chain(&NO_DEAREST);
     assert!(examples.len() >= 12 && named.into_iter().all(|name| examples.contains_key(*name)));
     for (name, example) in examples {
         let (renumbered, grm) = as_the_crate(example);
@@ -285,6 +303,9 @@ fn examples_have_the_crates_own_answers() {
         if !NO_COSTS.contains(&&name[..]) {
             costs_are_equal(&name, &flat, &grm);
             lists_are_equal(&name, &flat, &grm);
+        }
+        if !NO_DEAREST.contains(&&name[..]) {
+            dearest_differ_as_said(&name, &flat, &grm);
         }
     }
 }

@@ -3,6 +3,7 @@
 //!
 //!     boltmarrow profile FILE             bin/profile
 //!     boltmarrow rows FILE [RULE]         bin/rows
+//!     boltmarrow widths FILE              bin/widths
 //!
 //! What all of them share: the words behind the command (words.rs); a grammar with its names, from a block file or a
 //! readable text (input.rs, text.rs, names.rs); what is printed (output.rs); how a command ends (failure.rs).
@@ -15,6 +16,7 @@ mod output;
 mod profile;
 mod rows;
 mod text;
+mod widths;
 mod words;
 
 use std::env;
@@ -45,7 +47,7 @@ pub enum Ending {
     Clash = 1,
 }
 
-const COMMANDS: &[Command] = &[profile::COMMAND, rows::COMMAND];
+const COMMANDS: &[Command] = &[profile::COMMAND, rows::COMMAND, widths::COMMAND];
 
 fn run(command: &Command, words: impl Iterator<Item = OsString>) -> Result<Ending, Failure> {
     let mut output = Output::new();

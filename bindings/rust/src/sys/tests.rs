@@ -45,6 +45,7 @@ fn seven_for_rows_and_numbers() {
         assert_eq!(refused(cost_visit(G1, 0, &mut wrong)), 7);
         assert_eq!(refused(cost_fill(G1, &mut wrong)), 7);
         assert_eq!(refused(min_sentence_cost(G1, 0, &mut wrong)), 7);
+        assert_eq!(refused(dearest_fill(G1, &mut wrong)), 7);
         assert_eq!(refused(min_sentence(G1, 0, &mut cost, &mut wrong, &mut out)), 7);
         assert_eq!(refused(min_sentence(G1, 0, &mut wrong, &mut cost, &mut out)), 7);
         assert_eq!((wrong, cost, out), (vec![9; len], [9; 4], [9; 8]));
@@ -155,6 +156,7 @@ fn a_refused_grammar_ends_every_call_first() {
     assert_eq!(production(wrong, 99).range(), Err(Refusal::Sizes));
     assert_eq!(refused(mark(wrong, &table, 9, 9)), 1);
     assert_eq!(refused(has_path(wrong, 9, 9)), 1);
+    assert_eq!(refused(dearest_fill(wrong, &mut table)), 1);
     assert_eq!(refused(reached_fill(wrong, &mut table)), 1);
     assert_eq!(refused(follow_visit(wrong, 9, 99, &mut table, &[], &empty, &[])), 1);
     assert_eq!(profile(wrong, &mut table, &mut [], &mut [], &mut []), Verdict { refusal: 1, ..Verdict::default() });
@@ -186,6 +188,21 @@ fn words_are_where_document_01_has_them() {
     cost_clear(G1, &mut cost).number().unwrap();
     assert_eq!(cost, [COST_UNKNOWN; 4]);
     assert_eq!((COST_MAX, COST_DEAR, COST_UNKNOWN), (65535, 65536, 65537));
+}
+
+/// A: a of cost 254; B: B a; B: a; C: C; D: 259 times a. Each entry as document 02 has it, whatever the table held.
+#[test]
+fn the_words_of_dearest() {
+    let symbols = [&[32769, 0, 32770, 0, 0, 32771][..], &[0; 259]].concat();
+    let (owners, starts) = (&[0, 1, 2, 2, 3, 4], &[0, 1, 2, 4, 5, 6, 265]);
+    let g = Flat { rules: 5, owners, starts, symbols: &symbols, costs: &[254, 1] };
+    for word in [0, 9, DEAREST_ABOVE, u32::MAX] {
+        let mut dearest = [word; 5];
+        assert_eq!(dearest_fill(g, &mut dearest).number(), Ok(0));
+        assert_eq!(dearest, [254, 254, DEAREST_UNBOUNDED, DEAREST_NONE, DEAREST_ABOVE]);
+    }
+    let named = (DEAREST_MAX, DEAREST_UNBOUNDED, DEAREST_NONE, DEAREST_ABOVE);
+    assert_eq!(named, (65534, 65535, 65536, 65537));
 }
 
 /// S: A; A: a; U: A z. Rules 1 S, 2 A, 3 U; tokens 0 a, 1 z.
@@ -253,20 +270,34 @@ fn seven_for_the_tables_of_the_profile() {
     }
 }
 
+/// G1 with one change each, for which 1 to 6 are due.
+const WRONG: [Flat; 6] = [
+    Flat { rules: 513, ..G1 },
+    Flat { starts: &[0, 3, 2, 4, 6, 6, 7], ..G1 },
+    Flat { owners: &[1, 2, 2, 3, 4, 0], ..G1 },
+    Flat { owners: &[1, 2, 2, 2, 2, 0], ..G1 },
+    Flat { symbols: &[32770, 0, 32771, 3, 1, 0, 32769], ..G1 },
+    Flat { symbols: &[32770, 0, 32768, 2, 1, 0, 32769], ..G1 },
+];
+
 /// Tables of right lengths, and of wrong ones: 7 comes last.
 #[test]
 fn one_to_six_end_the_profile_first() {
-    let wrong = [
-        Flat { rules: 513, ..G1 },
-        Flat { starts: &[0, 3, 2, 4, 6, 6, 7], ..G1 },
-        Flat { owners: &[1, 2, 2, 3, 4, 0], ..G1 },
-        Flat { owners: &[1, 2, 2, 2, 2, 0], ..G1 },
-        Flat { symbols: &[32770, 0, 32771, 3, 1, 0, 32769], ..G1 },
-        Flat { symbols: &[32770, 0, 32768, 2, 1, 0, 32769], ..G1 },
-    ];
-    for (g, number) in wrong.into_iter().zip(1..) {
+    for (g, number) in WRONG.into_iter().zip(1..) {
         holds_unprofiled(number, g, &PROFILE.map(|len| vec![9; len]));
         holds_unprofiled(number, g, &Default::default());
+    }
+}
+
+/// And the same for DEAREST, which is left as found.
+#[test]
+fn one_to_six_end_dearest_first() {
+    for (g, number) in WRONG.into_iter().zip(1..) {
+        for len in [0, 3, 4, 5] {
+            let mut dearest = vec![9; len];
+            assert_eq!(refused(dearest_fill(g, &mut dearest)), number, "length {len}");
+            assert_eq!(dearest, vec![9; len]);
+        }
     }
 }
 

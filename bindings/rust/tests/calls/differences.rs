@@ -1,9 +1,10 @@
 //! Inputs of docs/DIFFERENCES.md besides document 01's grammars: what is answered where the Rust loses marks, has marks
-//! of dead rules, writes tokens again, panics, never returns or builds no such grammar. In each the start is rule 1, in
-//! the last but one rule 2 too.
-use boltmarrow::{RIdx, Refusal, TIdx};
+//! of dead rules, writes tokens again, panics, never returns, settles too soon or builds no such grammar. In each the
+//! start is rule 1, in the last but one rule 2 too.
+use boltmarrow::{Dearest, RIdx, Refusal, TIdx};
 
-use crate::grammars::{built, dead, well, RULE};
+use crate::dearest::dearest;
+use crate::grammars::{built, dead, doubled, g5, well, RULE};
 use crate::sentences::{cost, count, list, sentence};
 
 const A: u16 = RULE + 1;
@@ -99,6 +100,38 @@ fn lists_have_each_part_once_as_the_rusts() {
     // A: B a; B: b; B: c: the Rust's min_sentence writes a again, its min_sentences does not
     let grm = well(3, &[(0, &[A]), (1, &[B, 0]), (2, &[1]), (2, &[2])], &[1; 4]);
     assert_eq!(list(&grm, 1), Ok(vec![vec![1, 0], vec![2, 0]]));
+}
+
+#[test]
+fn dearest_is_not_settled_too_soon() {
+    // A: a; A: B; B: a a
+    let grm = well(3, &[(0, &[A]), (1, &[0]), (1, &[B]), (2, &[0, 0])], &[1, 1]);
+    assert_eq!(dearest(&grm), [Dearest::Cost(2); 3]);
+}
+
+#[test]
+fn dearest_without_productions_that_derive_no_sentence() {
+    // A: A
+    assert_eq!(dearest(&well(2, &[(0, &[A]), (1, &[A])], &[1])), [Dearest::NoSentence; 2]);
+    // A: a; A: B; B: B
+    let grm = well(3, &[(0, &[A]), (1, &[0]), (1, &[B]), (2, &[B])], &[1, 1]);
+    assert_eq!(dearest(&grm), [Dearest::Cost(1), Dearest::Cost(1), Dearest::NoSentence]);
+}
+
+#[test]
+fn dearest_where_a_loop_adds_no_cost() {
+    // A: A; A: nothing
+    assert_eq!(dearest(&well(2, &[(0, &[A]), (1, &[A]), (1, &[])], &[1])), [Dearest::Cost(0); 2]);
+    // A: A x; A: x, and x is free
+    assert_eq!(dearest(&well(2, &[(0, &[A]), (1, &[A, 0]), (1, &[0])], &[0, 1])), [Dearest::Cost(0); 2]);
+}
+
+#[test]
+fn dearest_of_65535_and_more() {
+    // A: 257 tokens of cost 255
+    assert_eq!(dearest(&g5(257)), [Dearest::Above; 2]);
+    // 500 rules that are the next one twice, behind them a token of cost 1
+    assert_eq!(dearest(&doubled(501, &[0], 1))[..3], [Dearest::Above; 3]);
 }
 
 #[test]

@@ -1,5 +1,6 @@
 //! The crate's calls against values that were written by hand from document 01, and against the stored reports of
 //! examples/.
+mod dearest;
 mod differences;
 mod files;
 mod grammars;

@@ -129,6 +129,8 @@ fn numbers_that_are_not_there() {
     assert_eq!(grm.productive().is_set(RIdx(4)), rule);
     assert_eq!(grm.reached().is_set(RIdx(4)), rule);
     assert_eq!(grm.costs().cost(RIdx(4)), Err(Refusal::RuleNumber));
+    assert_eq!(grm.dearest().cost(RIdx(4)), Err(Refusal::RuleNumber));
+    assert_eq!(grm.dearest().cost(RIdx(65535)), Err(Refusal::RuleNumber));
     assert_eq!(grm.has_path(RIdx(0), RIdx(4)), rule);
     assert_eq!(grm.has_path(RIdx(4), RIdx(0)), rule);
     assert_eq!(grm.prod(PIdx(6)).err(), Some(production));

@@ -1,0 +1,4 @@
+pub mod Rounds
+pub mod Step
+pub mod Defined
+pub mod Calls

@@ -1,0 +1,111 @@
+-- Rounds of the dearest costs: how far each can still rise, and that 2R of them are enough.
+use mathlib.Core.Bool.{Bool, true, false, cond}
+use mathlib.Core.List.{List}
+use mathlib.Core.Logic.{_⊎_, inl, inr}
+use mathlib.Core.Path.{_≡_, refl, sym, _∙_, ap, fun-ext}
+use Prim.Native.Nat.{ℕ, _*_, _≤_, _<_, min}
+use native.Mathlib.Decide.{decLt}
+use native.Mathlib.Omega.{arith}
+use lib.Dec.{leb}
+use lib.ListN.{length}
+use borrow.Author.Tests.{leb-true, leb-false, le-leb}
+use Rattle.theory.specs.Grammar.{Grammar}
+use Rattle.theory.specs.Visits.{Costs}
+use Rattle.theory.specs.Rounds.{run, AllRounds, rounds}
+use Rattle.theory.specs.Tables.{Proper}
+use Rattle.theory.specs.Dearest.{Dearest, is, none}
+use Rattle.theory.specs.DearestVisits.{noBound, addUp, formDearest, dearestVisit, dearestCleared, endsAs}
+use Rattle.theory.proofs.Rounds.{rounds-keeps, joined, joined-valid, rounds-run, Climb, climb-ascent, rounds-done}
+use Rattle.theory.proofs.Count.{sum, sum-le, sum-same, sum-grows, bit, bit-le, bit-grows}
+use Rattle.theory.proofs.Dearest.{Limits, dearest-cases, dearest-up, dearest-run-up, dearest-exact}
+
+-- how many entries are `noBound`
+abbrev pub boundless : Grammar → Costs → ℕ
+boundless g c = sum (g .rules) (λ r. bit (leb noBound (c r)))
+
+-- entries are at most `noBound`, and none is known outside the rules
+pub record Risen (R : ℕ) (c : Costs) : Type 0 where
+  pub cap : (r : ℕ) → c r ≤ noBound
+  pub out : (r : ℕ) → R ≤ r → c r ≡ 0
+
+module _ (g : Grammar) (k : ℕ → ℕ) (ok : Proper g) where
+  pub cleared-risen : Risen (g .rules) dearestCleared
+  cleared-risen = record { cap = λ r. omega arith; out = λ r l. refl }
+
+  new-entry : (beyond : Bool) (s : ℕ) → s ≤ noBound → cond beyond noBound s ≤ noBound
+  new-entry true s l = omega arith
+  new-entry false s l = l
+
+  pub risen-kept : (beyond : Bool) (p : ℕ) → p < g .prods → (c : Costs) → Risen (g .rules) c → Risen (g .rules) (dearestVisit g k beyond p c)
+  risen-kept beyond p lt c i = record {
+    cap = λ r. elim (dearest-cases g k beyond p c r) [
+      | inl e ↦ omega (arith, e .2, new-entry beyond (min (formDearest addUp k c (g .body p)) noBound) (omega arith))
+      | inr e ↦ omega (arith, e, i .cap r)
+    ];
+    out = λ r l. elim (dearest-cases g k beyond p c r) [ inl e ↦ absurd (omega (arith, e .0, ok .owner p lt)) | inr e ↦ e ∙ i .out r l ];
+  }
+
+  same-outside : (beyond : Bool) (p : ℕ) → p < g .prods → (c : Costs) → Risen (g .rules) c → ((r : ℕ) → r < g .rules → dearestVisit g k beyond p c r ≡ c r) → dearestVisit g k beyond p c ≡ c
+  same-outside beyond p lt c i q = fun-ext (λ r. elim (decLt r (g .rules)) [ yes l ↦ q r l | no l ↦ risen-kept beyond p lt c i .out r (omega arith) ∙ sym (i .out r (omega arith)) ])
+
+  -- each change raises an entry
+  each : (beyond : Bool) (p : ℕ) (c : Costs) (r : ℕ) → (dearestVisit g k beyond p c r ≡ c r) ⊎ (c r < dearestVisit g k beyond p c r)
+  each beyond p c r = elim (decLt (c r) (dearestVisit g k beyond p c r)) [ yes l ↦ inr l | no l ↦ inl (omega (arith, dearest-up g k beyond p c r)) ]
+
+  pub dearest-grows : (beyond : Bool) (p : ℕ) → p < g .prods → (c : Costs) → Risen (g .rules) c → (dearestVisit g k beyond p c ≡ c) ⊎ (sum (g .rules) c < sum (g .rules) (dearestVisit g k beyond p c))
+  dearest-grows beyond p lt c i = elim (sum-grows (g .rules) c (dearestVisit g k beyond p c) (λ r. dearestVisit g k beyond p c r ≡ c r) (λ r q. sym q) (λ r _. each beyond p c r)) [
+    | inl q ↦ inl (same-outside beyond p lt c i q)
+    | inr l ↦ inr l
+  ]
+
+  unfoldable pub dearest-climb : (beyond : Bool) → Climb (dearestVisit g k beyond) (Risen (g .rules)) (g .prods) (g .rules * noBound)
+  dearest-climb beyond = record {
+    size = λ c. sum (g .rules) c;
+    kept = risen-kept beyond;
+    bound = λ c i. sum-le (g .rules) noBound c (λ r lt. i .cap r);
+    grows = dearest-grows beyond;
+  }
+
+  -- beyond R rounds each change takes an entry to `noBound`: so R more are enough
+  bound-bits : (x y : ℕ) → x < noBound → noBound ≤ y → bit (leb noBound x) < bit (leb noBound y)
+  bound-bits x y l m = go (leb noBound x) refl (leb noBound y) refl
+    where
+      go : (a : Bool) → leb noBound x ≡ a → (b : Bool) → leb noBound y ≡ b → bit a < bit b
+      go true e b f = absurd (omega (arith, leb-true noBound x e))
+      go false e true f = omega arith
+      go false e false f = absurd (omega (arith, leb-false noBound y f))
+
+  pub beyond-grows : (p : ℕ) → p < g .prods → (c : Costs) → Risen (g .rules) c → (dearestVisit g k true p c ≡ c) ⊎ (boundless g c < boundless g (dearestVisit g k true p c))
+  beyond-grows p lt c i = elim (sum-grows (g .rules) _ _ (λ r. dearestVisit g k true p c r ≡ c r) (λ r q. ap (λ z. bit (leb noBound z)) (sym q)) (λ r _. topped r)) [
+    | inl q ↦ inl (same-outside true p lt c i q)
+    | inr l ↦ inr l
+  ]
+    where
+      topped : (r : ℕ) → (dearestVisit g k true p c r ≡ c r) ⊎ (bit (leb noBound (c r)) < bit (leb noBound (dearestVisit g k true p c r)))
+      topped r = elim (dearest-cases g k true p c r) [ inr e ↦ inl e | inl e ↦ inr (bound-bits (c r) (dearestVisit g k true p c r) (omega (arith, e .1)) (omega (arith, e .2))) ]
+
+  unfoldable pub beyond-climb : Climb (dearestVisit g k true) (Risen (g .rules)) (g .prods) (g .rules)
+  beyond-climb = record {
+    size = boundless g;
+    kept = risen-kept true;
+    bound = λ c i. omega (arith, sum-le (g .rules) 1 (λ r. bit (leb noBound (c r))) (λ r lt. bit-le (leb noBound (c r))));
+    grows = beyond-grows;
+  }
+
+-- how many entries are `noBound` does not fall
+pub ends-up : (g : Grammar) (k : ℕ → ℕ) (beyond : Bool) (v : List ℕ) (c : Costs) → boundless g c ≤ boundless g (run (dearestVisit g k beyond) v c)
+ends-up g k beyond v c = elim (sum-grows (g .rules) _ _ (λ r. leb noBound (c r) ≡ leb noBound (run (dearestVisit g k beyond) v c r)) (λ r q. ap bit q)
+    (λ r lt. bit-grows (leb noBound (c r)) (leb noBound (run (dearestVisit g k beyond) v c r)) (λ e. le-leb noBound (run (dearestVisit g k beyond) v c r) (omega (arith, leb-true noBound (c r) e, dearest-run-up g k beyond v c r))))) [
+      | inl q ↦ omega (arith, sum-same (g .rules) (λ r. bit (leb noBound (c r))) (λ r. bit (leb noBound (run (dearestVisit g k beyond) v c r))) (λ r lt. ap bit (q r lt)))
+      | inr l ↦ omega arith
+    ]
+
+-- R rounds and then R beyond them, each in any order, leave the entries
+pub dearest-rounds : (g : Grammar) (k : ℕ → ℕ) → Proper g → Limits g k → (vs us : List (List ℕ)) → AllRounds (g .prods) vs → AllRounds (g .prods) us → length vs ≡ g .rules → g .rules ≤ length us
+    → (r : ℕ) → Dearest g k r (endsAs (rounds (dearestVisit g k true) us (rounds (dearestVisit g k false) vs dearestCleared) r))
+dearest-rounds g k ok lim vs us rv ru lv lu r =
+    let c = rounds (dearestVisit g k false) vs dearestCleared in
+    let i = rounds-keeps (dearestVisit g k false) (g .prods) (Risen (g .rules)) (risen-kept g k ok false) vs rv dearestCleared (cleared-risen g k ok) in
+    let e = rounds-run (dearestVisit g k true) us c in
+    let st = rounds-done (climb-ascent (beyond-climb g k ok)) us ru lu c i in
+    rw e (dearest-exact g k ok lim vs rv lv (joined us) (joined-valid us ru) (rw e at st) r)

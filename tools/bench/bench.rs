@@ -1,7 +1,8 @@
 //! Times the Rust crate, the fills in plain C and the library on the same grammars, and the library's visits and queries
 //! beside its check.
 //!
-//!     bench                     at the repository's top; prints two tables
+//!     bench                     at the repository's top; prints three tables
+//!     bench sentences           the third alone
 //!     bench costs PLACE         ends once the Rust has the costs of the grammar at that place of the list
 //!
 //! Before a grammar is timed the three are held to each other: FIRST, EMPTY, FOLLOW and the costs, in the Rust FOLLOW only
@@ -210,6 +211,45 @@ fn check_line(flat: &Grammar, what: &str, call: &mut dyn FnMut()) {
     println!("| {what} | {} | {} | {:.2} |", shown(&times[0]), shown(&times[1]), times[0].least / times[1].least);
 }
 
+/// The grammar as it is given, without the crate.
+fn flat(given: &Given) -> Grammar {
+    let owners = given.prods.iter().map(|(owner, _)| *owner).collect();
+    let ends = given.prods.iter().scan(0, |end, (_, body)| {
+        *end += body.len() as u16;
+        Some(*end)
+    });
+    let starts = std::iter::once(0).chain(ends).collect();
+    let symbols = given.prods.iter().flat_map(|(_, body)| body.iter().copied()).collect();
+    Grammar::new(given.rules, owners, starts, symbols, given.costs.clone()).expect("a grammar within the limits")
+}
+
+fn sentence_line(name: &str, what: &str, told: &str, call: &mut dyn FnMut()) {
+    let times = &turns(vec![call])[0];
+    println!("| {name} | {what} | {told} | {} | {} |", microseconds(times.least), microseconds(times.median));
+}
+
+/// The start's sentence, and the last of its list where that has more than one.
+fn sentence_lines(given: &Given) {
+    let flat = flat(given);
+    let sentences = flat.sentence_generator();
+    let start = flat.start_rule_idx();
+    let told = sentences.min_sentence(start).map_or_else(|why| why.number().to_string(), |row| row.len().to_string());
+    sentence_line(given.name, "min_sentence", &told, &mut || keep(sentences.min_sentence(start)));
+    let last = sentences.count_min_sentences(start).map_or(0, |count| count - 1);
+    if last > 0 {
+        let told = sentences.min_sentence_at(start, last).expect("a number of the list").len().to_string();
+        sentence_line(given.name, "min_sentence_at, the last", &told, &mut || {
+            keep(sentences.min_sentence_at(start, last))
+        });
+    }
+}
+
+fn sentence_table() {
+    println!("| grammar | call | tokens, or the refusal | least | median |");
+    println!("|---|---|---|---|---|");
+    grammars::sentences().iter().for_each(sentence_lines);
+}
+
 fn tables(given: &[Given]) {
     println!("| grammar | fill | Rust | C | ours | ours / C | Rust / ours |");
     println!("|---|---|---|---|---|---|---|");
@@ -220,6 +260,8 @@ fn tables(given: &[Given]) {
     println!("\n| call, on 'random' | least | median | its check, least | median | call / check |");
     println!("|---|---|---|---|---|---|");
     beside_check(&built(random).1);
+    println!();
+    sentence_table();
 }
 
 fn main() {
@@ -227,10 +269,11 @@ fn main() {
     let words: Vec<String> = std::env::args().skip(1).collect();
     match &words.iter().map(String::as_str).collect::<Vec<_>>()[..] {
         [] => tables(&given),
+        ["sentences"] => sentence_table(),
         ["costs", place] => {
             let given = &given[place.parse::<usize>().expect("a number")];
             keep(rust_costs(&built(given).0, &given.costs));
         }
-        _ => panic!("use: bench, or bench costs PLACE"),
+        _ => panic!("use: bench, bench sentences, or bench costs PLACE"),
     }
 }

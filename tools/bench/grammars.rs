@@ -36,6 +36,59 @@ pub fn all() -> Vec<Given> {
     ]
 }
 
+/// Those for sentences: what would make a sentence slow if rules were expanded each time they stand somewhere, and what
+/// copying does not help.
+pub fn sentences() -> Vec<Given> {
+    vec![
+        below_links("65,535 tokens below 494 links", 0, 0),
+        below_links("the same, with 30 empty rules behind each link", 30, 0),
+        long_chain("511 rules, each used once, 30 tokens each", |r| r + 1),
+        one_a_round(),
+        doublings(),
+        below_links("65,536 tokens below 494 links: too long", 0, 1),
+        turning(),
+    ]
+}
+
+/// Rules 1 to 15 are each twice the next, and rule 17; rule 16 is rule 17; from there on each rule is the next, with so
+/// many times rule 511 behind it, which is nothing; rule 510 is a token. Rule 1 has some tokens more; then all are free.
+fn below_links(name: &'static str, empty: usize, more: usize) -> Given {
+    let twice = |r: u16| vec![RULE + r + 1, RULE + r + 1, RULE + 17];
+    let link = |r: u16| [vec![RULE + r + 1], vec![RULE + 511; empty]].concat();
+    let mut prods = vec![(1, [twice(1), vec![0; more]].concat())];
+    prods.extend((2..16).map(|r| (r, twice(r))));
+    prods.extend((16..510).map(|r| (r, link(r))));
+    prods.extend([(510, vec![0]), (511, vec![])]);
+    finished(name, RULES, vec![u8::from(more == 0); 2], prods)
+}
+
+/// 510 rules, each 30 tokens and the next, numbered so that a round over them, up or down, settles one: the rules are
+/// 256, 1, 257, 2 .. from the last on.
+fn one_a_round() -> Given {
+    let number = |k: u16| if k % 2 == 0 { 256 + k / 2 } else { 1 + k / 2 };
+    let body = |k: u16| [vec![0; 30], vec![if k == 0 { 0 } else { RULE + number(k - 1) }]].concat();
+    let mut prods: Vec<(u16, Vec<u16>)> = (0..510).map(|k| (number(k), body(k))).collect();
+    prods.sort();
+    prods.extend([(511, vec![]), (0, vec![RULE + number(509)])]);
+    Given { name: "510 rules, each used once, settled one a round", rules: RULES, costs: vec![1; 2], prods }
+}
+
+/// Rule r is twice the next, up to rule 16, which is a token: 32,768 tokens.
+fn doublings() -> Given {
+    let mut prods: Vec<(u16, Vec<u16>)> = (1..16).map(|r| (r, vec![RULE + r + 1; 2])).collect();
+    prods.push((16, vec![0]));
+    finished("15 doublings", 17, vec![1; 2], prods)
+}
+
+/// Rule 1 is fifteen times rule 2 and 15,000 times rule 3; both are 254 links away from a token, of which rule 2's has a
+/// choice, so that there are 32,768 sentences.
+fn turning() -> Given {
+    let mut prods = vec![(1, [vec![RULE + 2; 15], vec![RULE + 3; 15_000]].concat())];
+    prods.extend((2..510).map(|r| (r, vec![RULE + r + 2])));
+    prods.extend([(510, vec![0]), (510, vec![1]), (511, vec![0])]);
+    finished("32,768 sentences of 15,015 tokens below 254 links", RULES, vec![1; 3], prods)
+}
+
 /// A grammar of examples/.
 fn example(name: &'static str) -> Given {
     let file = fs::read(format!("examples/{name}.blk")).expect("started at the repository's top");

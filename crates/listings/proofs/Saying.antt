@@ -7,7 +7,7 @@ use Prim.Native.Nat.{ℕ, _+_, _≤_, _<_, min}
 use native.Mathlib.Decide.{decLe}
 use native.Mathlib.Omega.{arith}
 use lib.Dec.{leb}
-use lib.ListN.{length, drop}
+use lib.ListN.{length, replicate, drop}
 use lib.Seq.{sets, sets-eq}
 use borrow.Author.Tests.{leb-true, le-leb}
 use Rattle.theory.specs.Definitions.{Sentence, costOf, Productive, Cost}
@@ -24,7 +24,8 @@ use Rattle.grammar.specs.Flat.{Flat, at, denoted, price}
 use Rattle.grammar.specs.Outcome.{answers, refused}
 use Rattle.grammar.proofs.Denoted.{proper}
 use Rattle.grammar.proofs.Outcomes.{not-both, refused-one, answers-one}
-use Rattle.tables.specs.Append.{Appended}
+use Rattle.sentences.specs.Expanding.{Wrote}
+use Rattle.sentences.proofs.Expanding.{remembers-none}
 use Rattle.costs.specs.Lent.{costsOf}
 use Rattle.costs.specs.Query.{entryDue}
 use Rattle.costs.proofs.Entry.{due-cost, due-none, due-12, due-13}
@@ -244,11 +245,16 @@ module _ (g : Flat) (r : ℕ) (cost next choice lengths counts : List ℕ) (ok :
             room : length (ruleWords g cost n r k) ≤ length out
             room = omega (arith, short, es, leb-true s (length out) (and-split (leb long 65535) _ f .1))
 
-            pub number-write : RuleWritable g next cost choice lengths counts n r k 0 out
-            number-write = record { measure = number-measure; room = omega (arith, room) }
+            pub number-write : RuleWritable g next cost choice lengths counts n r k 0 (replicate 512 65535) out
+            number-write = record {
+              measure = number-measure;
+              room = omega (arith, room);
+              most = omega (arith, short, leb-true long 65535 (and-split (leb long 65535) _ f .0));
+              remembers = remembers-none g (ground .well) choice out;
+            }
 
-            pub number-is : (x : ℕ) (to : List ℕ) → Appended out 0 (ruleWords g cost n r k) to x → Numbers g (costsOf cost) r k out (answers long) to
-            number-is x to w = record {
+            pub number-is : (x : ℕ) (begun to : List ℕ) → Wrote g choice out 0 (ruleWords g cost n r k) begun to x → Numbers g (costsOf cost) r k out (answers long) to
+            number-is x begun to w = record {
               none = λ h. absurd (not-both (sym told ∙ said .none h));
               dear = λ h i. absurd (not-both (sym told ∙ said .dear h i));
               circular = λ y. absurd (lists .straight y);
@@ -257,7 +263,7 @@ module _ (g : Flat) (r : ℕ) (cost next choice lengths counts : List ℕ) (ok :
               is = λ l h j u v. record {
                 number = ap answers (sym short ∙ ap length words-are);
                 tokens =
-                    w .left
+                    w .appends .left
                     ∙ ap (sets out 0) words-are
                     ∙ sets-eq (sentenceAt (denoted g) (price g) (costsOf cost) r k) out 0 (omega (arith, v))
                     ∙ ap (λ (i : ℕ). sentenceAt (denoted g) (price g) (costsOf cost) r k ++ drop i out) {x = 0 + length (sentenceAt (denoted g) (price g) (costsOf cost) r k)} {y = length (sentenceAt (denoted g) (price g) (costsOf cost) r k)} (omega arith);

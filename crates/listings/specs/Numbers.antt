@@ -11,6 +11,7 @@ use Rattle.theory.specs.Counts.{formWays}
 use Rattle.theory.specs.Odometer.{Fits, places, picked, Found}
 use Rattle.grammar.specs.Flat.{Flat, at, denoted, price, form}
 use Rattle.costs.specs.Lent.{costsOf}
+use Rattle.sentences.specs.Expanding.{Remembers}
 use Rattle.sentences.specs.Measuring.{SymbolCounted, LengthsDefined}
 use Rattle.listings.specs.Calls.{countsOf, CountsDefined}
 use Rattle.listings.specs.Counting.{deepBy, Ground}
@@ -76,11 +77,15 @@ pub record ProductionMeasurable (g : Flat) (next cost choice lengths counts : Li
   pub room : length todo ≡ 16
   pub fits : Fits (places (countsOf counts) (form (g .symbols) a e)) (take (length (places (countsOf counts) (form (g .symbols) a e))) todo)
 
--- what writing asks besides: room
-pub record RuleWritable (g : Flat) (next cost choice lengths counts : List ℕ) (levels r k place : ℕ) (out : List ℕ) : Type 0 where
+-- what writing asks besides: room, and that what is remembered stands
+pub record RuleWritable (g : Flat) (next cost choice lengths counts : List ℕ) (levels r k place : ℕ) (begun out : List ℕ) : Type 0 where
   pub measure : RuleMeasurable g next cost choice lengths counts levels r k
   pub room : place + length (ruleWords g cost levels r k) ≤ length out
+  pub most : place + length (ruleWords g cost levels r k) ≤ 65535
+  pub remembers : Remembers g choice begun place out
 
-pub record ProductionWritable (g : Flat) (next cost choice lengths counts : List ℕ) (levels a e : ℕ) (todo : List ℕ) (place : ℕ) (out : List ℕ) : Type 0 where
+pub record ProductionWritable (g : Flat) (next cost choice lengths counts : List ℕ) (levels a e : ℕ) (todo : List ℕ) (place : ℕ) (begun out : List ℕ) : Type 0 where
   pub measure : ProductionMeasurable g next cost choice lengths counts levels a e todo
   pub room : place + length (productionWords g cost counts levels a e todo) ≤ length out
+  pub most : place + length (productionWords g cost counts levels a e todo) ≤ 65535
+  pub remembers : Remembers g choice begun place out

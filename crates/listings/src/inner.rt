@@ -9,6 +9,7 @@ use grammar::inner::links;
 use grammar::inner::wide;
 use sentences::LENGTH_MAX;
 use sentences::Length;
+use sentences::inner::expansion::NOT_WRITTEN;
 use sentences::inner::size;
 ghost use mathlib.Core.Path.{_≡_};
 ghost use Rattle.grammar.specs.Flat.{flat};
@@ -166,6 +167,7 @@ pub fn number_answer(
         k,
     );
     if (long <= LENGTH_MAX) & (size(long) <= out.len()) {
+        let mut begun = [NOT_WRITTEN; 512];
         write_rule(
             rules,
             owners,
@@ -181,6 +183,7 @@ pub fn number_answer(
             r,
             k,
             0,
+            &mut begun,
             out,
         );
         return Length::Is(long);

@@ -1,6 +1,7 @@
 pub mod Choosing
 pub mod Counting
 pub mod Measuring
+pub mod Copying
 pub mod Expanding
 pub mod Working
 pub mod Saying

@@ -7,7 +7,7 @@ use Prim.Native.Nat.{ℕ, _+_, _≤_, _<_}
 use native.Mathlib.Decide.{decLe}
 use native.Mathlib.Omega.{arith}
 use lib.Dec.{leb}
-use lib.ListN.{length, drop}
+use lib.ListN.{length, drop, replicate}
 use lib.Seq.{sets, sets-eq}
 use borrow.Author.Tests.{leb-true, le-leb}
 use Rattle.theory.specs.Definitions.{Productive, Sentence, costOf, Cost}
@@ -16,7 +16,7 @@ use Rattle.theory.specs.Levels.{Length, within, expanded}
 use Rattle.theory.specs.Sentences.{Expands, erul}
 use Rattle.theory.proofs.Bools.{and-split, and-join}
 use Rattle.theory.proofs.Cost.{cost-one}
-use Rattle.theory.proofs.Expanding.{expands-expanded, expanded-empty, expanded-length, known-within}
+use Rattle.theory.proofs.Expanding.{expands-expanded, expanded-length, known-within}
 use Rattle.theory.proofs.Lengths.{length-grounded, grounded-length, length-sentence, length-long}
 use Rattle.theory.proofs.Sentences.{expands-grounded}
 use Rattle.grammar.specs.Flat.{Flat, at, denoted, price}
@@ -28,10 +28,11 @@ use Rattle.costs.proofs.Entry.{due-cost, due-none, due-12, due-13}
 use Rattle.costs.proofs.Summing.{entry}
 use Rattle.tables.specs.Append.{Appended}
 use Rattle.sentences.specs.Lent.{choicesOf, lengthsOf}
-use Rattle.sentences.specs.Expanding.{RuleReady}
+use Rattle.sentences.specs.Expanding.{RuleReady, Wrote}
 use Rattle.sentences.specs.Query.{Refuses, Says}
 use Rattle.sentences.specs.Working.{Finished}
 use Rattle.sentences.proofs.Counting.{length-entry}
+use Rattle.sentences.proofs.Expanding.{leads-way, remembers-none}
 
 -- by its own table a rule with a sentence by first choices has a cost
 expands-priced : (g : Flat) (c : ℕ → ℕ) (r : ℕ) {w : List ℕ} → Expands (denoted g) (price g) c (rul r ∷ []) w → c r ≤ 65535
@@ -100,20 +101,19 @@ module _ (g : Flat) (r : ℕ) (cost choice lengths out : List ℕ) (ok : Finishe
           over w x a b (no k) h = omega (arith, length-long long-it (omega arith) x)
 
     module _ (short : l ≤ 65535) (fits : l ≤ length out) where
-      pub says-ready : RuleReady g choice lengths (g .rules) r 0 out
+      pub says-ready : RuleReady g choice lengths (g .rules) r 0 (replicate 512 65535) out
       says-ready = record {
         led = record {
           well = ok .well;
           room = ok .worked .picks .room;
           long = ok .worked .counts .long;
-          leads = record {
-            picks = λ q h. ok .worked .picks .chosen .is q h .isProd;
-            empty = λ n q h z. expanded-empty (denoted g) (price g) c (proper g (ok .well)) (choicesOf choice) (ok .worked .picks .chosen) (lengthsOf lengths) (ok .worked .counts .exact) n q h z;
-          };
+          leads = leads-way g (ok .well) c choice lengths (ok .worked .picks .chosen) (ok .worked .counts .exact);
         };
         isRule = ok .isRule;
         grounded = inside;
         fits = omega (arith, counted);
+        most = omega (arith, counted);
+        remembers = remembers-none g (ok .well) choice out;
       }
         where
           inside : within (denoted g) (choicesOf choice) (g .rules) r ≡ true
@@ -161,11 +161,11 @@ module _ (g : Flat) (r : ℕ) (cost choice lengths out : List ℕ) (ok : Finishe
         room : lengthsOf lengths r ≤ length out
         room = omega (arith, leb-true s (length out) (and-split (leb long 65535) _ f .1), is-long)
 
-        pub answer-ready : RuleReady g choice lengths n r 0 out
+        pub answer-ready : RuleReady g choice lengths n r 0 (replicate 512 65535) out
         answer-ready = rw en (says-ready g r cost choice lengths out ok cheap short room)
 
-        pub answer-is : (x : ℕ) (to : List ℕ) → Appended out 0 (expanded (denoted g) (choicesOf choice) n r) to x → Says g (costsOf cost) r out (answers long) to
-        answer-is x to w = says-it g r cost choice lengths out ok cheap short room long x to is-long (rw en at w)
+        pub answer-is : (x : ℕ) (begun to : List ℕ) → Wrote g choice out 0 (expanded (denoted g) (choicesOf choice) n r) begun to x → Says g (costsOf cost) r out (answers long) to
+        answer-is x begun to w = says-it g r cost choice lengths out ok cheap short room long x to is-long (rw en at (w .appends))
 
       pub answer-15 : (leb long 65535 && leb s (length out)) ≡ false → Says g (costsOf cost) r out (refused 15) out
       answer-15 f = says-15 g r cost choice lengths out ok cheap (omega (arith, is-long)) (over (decLe long 65535) (decLe s (length out)))

@@ -3,19 +3,13 @@ use mathlib.Core.List.{List}
 use Prim.Native.Nat.{ℕ}
 use Rattle.grammar.specs.Flat.{Flat}
 use Rattle.costs.specs.Lent.{costsOf}
-use Rattle.costs.specs.Defined.{CostFillable, CostDefined}
-use Rattle.sentences.specs.Choosing.{Choosable, FirstChoices}
+use Rattle.costs.specs.Defined.{CostDefined}
+use Rattle.sentences.specs.Choosing.{FirstChoices}
 use Rattle.sentences.specs.Measuring.{LengthFillable, LengthsBy}
 use Rattle.sentences.specs.Working.{Workable, Worked}
 
 module _ (g : Flat) (cost choice lengths : List ℕ) (ok : Workable g cost choice lengths) where
-  pub work-cost : CostFillable g cost
-  work-cost = record { well = ok .well; long = ok .cost-long }
-
   module _ (cost′ : List ℕ) (d : CostDefined g cost′) where
-    pub work-choices : Choosable g cost′ choice
-    work-choices = record { well = ok .well; long = d .long; none = ok .none }
-
     module _ (choice′ : List ℕ) (h : FirstChoices g cost′ choice′) where
       pub work-lengths : LengthFillable g choice′ lengths
       work-lengths = record { well = ok .well; picks = record { room = h .room; table = costsOf cost′; chosen = h .chosen }; long = ok .lengths-long }

@@ -17,6 +17,7 @@ pub mod expansion;
 pub mod lengths;
 
 use crate::inner::choices::choices;
+use crate::inner::expansion::NOT_WRITTEN;
 use crate::inner::expansion::expand_rule;
 use crate::inner::lengths::length_fill;
 
@@ -70,6 +71,7 @@ pub fn answer(
         return Length::Refused(14);
     }
     if (long <= LENGTH_MAX) & (size(long) <= out.len()) {
+        let mut begun = [NOT_WRITTEN; 512];
         expand_rule(
             rules,
             owners,
@@ -81,6 +83,7 @@ pub fn answer(
             wide(rules),
             r,
             0,
+            &mut begun,
             out,
         );
         return Length::Is(long);

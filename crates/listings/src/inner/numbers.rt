@@ -12,7 +12,7 @@ ghost use Prim.Native.Nat.{min};
 ghost use lib.ListN.{length};
 ghost use Rattle.theory.specs.Entries.{lengthLong};
 ghost use Rattle.grammar.specs.Flat.{flat};
-ghost use Rattle.tables.specs.Append.{Appended};
+ghost use Rattle.sentences.specs.Expanding.{Wrote};
 ghost use Rattle.listings.specs.Numbers.{PlacesReady, Places, NumberReady, Finds, RuleMeasurable, ProductionMeasurable, RuleWritable, ProductionWritable, ruleWords, productionWords};
 
 // The places of the symbols from a up to e that have a choice: how many, and in `bases` how many choices each has.
@@ -188,7 +188,8 @@ pub fn length_rule(
     )
 }
 
-// Writes what the symbols from a up to e stand for with the choices `todo`, from place `at` on; the place after it.
+// Writes what the symbols from a up to e stand for with the choices `todo`, from place `at` on; the place after it. By
+// `begun` sentences that were written are copied.
 fn write_production(
     rules: u16,
     owners: &[u16],
@@ -205,10 +206,11 @@ fn write_production(
     e: usize,
     todo: &[u32; 16],
     at: usize,
+    begun: &mut [usize; 512],
     out: &mut [u16],
 ) -> usize
-    requires { ⌜ ProductionWritable (flat rules (now owners) (now starts) (now symbols) (now costs)) (now next) (now cost) (now choice) (now lengths) (now counts) levels a e (now todo) at (now out) ⌝ }
-    ensures { λ x. ⌜ Appended (now (out .entry)) at (productionWords (flat rules (now (owners .entry)) (now (starts .entry)) (now (symbols .entry)) (now (costs .entry))) (now (cost .entry)) (now (counts .entry)) levels a e (now (todo .entry))) (now (out .exit)) x ⌝ }
+    requires { ⌜ ProductionWritable (flat rules (now owners) (now starts) (now symbols) (now costs)) (now next) (now cost) (now choice) (now lengths) (now counts) levels a e (now todo) at (now begun) (now out) ⌝ }
+    ensures { λ x. ⌜ Wrote (flat rules (now (owners .entry)) (now (starts .entry)) (now (symbols .entry)) (now (costs .entry))) (now (choice .entry)) (now (out .entry)) at (productionWords (flat rules (now (owners .entry)) (now (starts .entry)) (now (symbols .entry)) (now (costs .entry))) (now (cost .entry)) (now (counts .entry)) levels a e (now (todo .entry))) (now (begun .exit)) (now (out .exit)) x ⌝ }
 {
     let mut to = at;
     let mut j: usize = 0;
@@ -234,6 +236,7 @@ fn write_production(
                 levels,
                 r,
                 to,
+                begun,
                 out,
             );
             continue;
@@ -253,6 +256,7 @@ fn write_production(
             r,
             todo[j],
             to,
+            begun,
             out,
         );
         j += 1;
@@ -276,10 +280,11 @@ pub fn write_rule(
     r: usize,
     k: u32,
     at: usize,
+    begun: &mut [usize; 512],
     out: &mut [u16],
 ) -> usize
-    requires { ⌜ RuleWritable (flat rules (now owners) (now starts) (now symbols) (now costs)) (now next) (now cost) (now choice) (now lengths) (now counts) levels r k at (now out) ⌝ }
-    ensures { λ x. ⌜ Appended (now (out .entry)) at (ruleWords (flat rules (now (owners .entry)) (now (starts .entry)) (now (symbols .entry)) (now (costs .entry))) (now (cost .entry)) levels r k) (now (out .exit)) x ⌝ }
+    requires { ⌜ RuleWritable (flat rules (now owners) (now starts) (now symbols) (now costs)) (now next) (now cost) (now choice) (now lengths) (now counts) levels r k at (now begun) (now out) ⌝ }
+    ensures { λ x. ⌜ Wrote (flat rules (now (owners .entry)) (now (starts .entry)) (now (symbols .entry)) (now (costs .entry))) (now (choice .entry)) (now (out .entry)) at (ruleWords (flat rules (now (owners .entry)) (now (starts .entry)) (now (symbols .entry)) (now (costs .entry))) (now (cost .entry)) levels r k) (now (begun .exit)) (now (out .exit)) x ⌝ }
 {
     if k == 0 {
         return expand_rule(
@@ -293,6 +298,7 @@ pub fn write_rule(
             levels,
             r,
             at,
+            begun,
             out,
         );
     }
@@ -330,6 +336,7 @@ pub fn write_rule(
         e,
         &todo,
         at,
+        begun,
         out,
     )
 }

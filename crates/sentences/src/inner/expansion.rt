@@ -1,14 +1,35 @@
-// Expansion: a rule expands its first choice, which expands the rules in it in turn; the grounded levels left fall.
+// Expansion: a rule expands its first choice, which expands the rules in it in turn; the grounded levels left fall. Each
+// rule is expanded once: where its sentence has been written already, it is copied from there.
+use crate::inner::size;
 use costs::inner::entry_at;
 use grammar::inner::start_at;
 use grammar::inner::wide;
+ghost use Prim.Native.Nat.{_+_};
+ghost use lib.Seq.{slice};
 ghost use Rattle.theory.specs.Levels.{filled, expanded};
 ghost use Rattle.grammar.specs.Flat.{flat, denoted, form};
 ghost use Rattle.sentences.specs.Lent.{choicesOf};
 ghost use Rattle.tables.specs.Append.{Appended};
-ghost use Rattle.sentences.specs.Expanding.{RuleReady, ProductionReady};
+ghost use Rattle.sentences.specs.Expanding.{Copyable, RuleReady, ProductionReady, Wrote};
 
-// Writes rule r's sentence from place `at` on; the place after it. A rule with an empty sentence is passed over.
+// In the list of where each rule's sentence begins: it is not written yet.
+pub const NOT_WRITTEN: usize = 65535;
+
+// Copies n tokens from place `from` on, all before place `at`, to place `at` on; the place after them.
+fn copy(from: usize, n: usize, at: usize, out: &mut [u16]) -> usize
+    requires { ⌜ Copyable from n at (now out) ⌝ }
+    ensures { λ x. ⌜ Appended (now (out .entry)) at (slice from (from + n) (now (out .entry))) (now (out .exit)) x ⌝ }
+{
+    let mut i: usize = 0;
+    while i < n {
+        out[at + i] = out[from + i];
+        i += 1;
+    }
+    at + n
+}
+
+// Writes rule r's sentence from place `at` on; the place after it. A rule with an empty sentence is passed over; one that
+// has been written, by `begun`, is copied.
 pub fn expand_rule(
     rules: u16,
     owners: &[u16],
@@ -20,18 +41,24 @@ pub fn expand_rule(
     levels: usize,
     r: usize,
     at: usize,
+    begun: &mut [usize; 512],
     out: &mut [u16],
 ) -> usize
-    requires { ⌜ RuleReady (flat rules (now owners) (now starts) (now symbols) (now costs)) (now choice) (now lengths) levels r at (now out) ⌝ }
-    ensures { λ x. ⌜ Appended (now (out .entry)) at (expanded (denoted (flat rules (now (owners .entry)) (now (starts .entry)) (now (symbols .entry)) (now (costs .entry)))) (choicesOf (now (choice .entry))) levels r) (now (out .exit)) x ⌝ }
+    requires { ⌜ RuleReady (flat rules (now owners) (now starts) (now symbols) (now costs)) (now choice) (now lengths) levels r at (now begun) (now out) ⌝ }
+    ensures { λ x. ⌜ Wrote (flat rules (now (owners .entry)) (now (starts .entry)) (now (symbols .entry)) (now (costs .entry))) (now (choice .entry)) (now (out .entry)) at (expanded (denoted (flat rules (now (owners .entry)) (now (starts .entry)) (now (symbols .entry)) (now (costs .entry)))) (choicesOf (now (choice .entry))) levels r) (now (begun .exit)) (now (out .exit)) x ⌝ }
 {
-    if entry_at(lengths, r) == 0 {
+    let n = entry_at(lengths, r);
+    if n == 0 {
         return at;
+    }
+    let from = begun[r];
+    if from < NOT_WRITTEN {
+        return copy(from, size(n), at, out);
     }
     let p = wide(choice[r]);
     let a = start_at(starts, p);
     let e = start_at(starts, p + 1);
-    expand_production(
+    let next = expand_production(
         rules,
         owners,
         starts,
@@ -43,8 +70,11 @@ pub fn expand_rule(
         a,
         e,
         at,
+        begun,
         out,
-    )
+    );
+    begun[r] = at;
+    next
 }
 
 // Writes what the symbols from a up to e stand for, left to right.
@@ -60,10 +90,11 @@ fn expand_production(
     a: usize,
     e: usize,
     at: usize,
+    begun: &mut [usize; 512],
     out: &mut [u16],
 ) -> usize
-    requires { ⌜ ProductionReady (flat rules (now owners) (now starts) (now symbols) (now costs)) (now choice) (now lengths) levels a e at (now out) ⌝ }
-    ensures { λ x. ⌜ Appended (now (out .entry)) at (filled (expanded (denoted (flat rules (now (owners .entry)) (now (starts .entry)) (now (symbols .entry)) (now (costs .entry)))) (choicesOf (now (choice .entry))) levels) (form (now (symbols .entry)) a e)) (now (out .exit)) x ⌝ }
+    requires { ⌜ ProductionReady (flat rules (now owners) (now starts) (now symbols) (now costs)) (now choice) (now lengths) levels a e at (now begun) (now out) ⌝ }
+    ensures { λ x. ⌜ Wrote (flat rules (now (owners .entry)) (now (starts .entry)) (now (symbols .entry)) (now (costs .entry))) (now (choice .entry)) (now (out .entry)) at (filled (expanded (denoted (flat rules (now (owners .entry)) (now (starts .entry)) (now (symbols .entry)) (now (costs .entry)))) (choicesOf (now (choice .entry))) levels) (form (now (symbols .entry)) a e)) (now (begun .exit)) (now (out .exit)) x ⌝ }
 {
     let mut next = at;
     let mut i = a;
@@ -87,6 +118,7 @@ fn expand_production(
             levels,
             r,
             next,
+            begun,
             out,
         );
     }

@@ -31,13 +31,13 @@ size-requires : tie.Need-size-requires
 size-requires c κs = search needs
 
 write-rule-requires : tie.Need-write-rule-requires
-write-rule-requires c κs = let v = c .before in let s = v .before in let l = s .before in let w = l .before in let u = w .before in let z = u .before in let y = z .before in let a = y .before .before in number-write _ _ _ _ _ _ _ (a .before .before .before .before .before .before .before .before .before .pre) _ (a .count-answer .ensures) _ _ (y .c .given .1) (u .if1 .left) _ (w .wide .ensures .0) _ (l .length-rule .ensures) _ (s .size .ensures) _ (v .if2 .taken)
+write-rule-requires c κs = let v = c .before .before in let s = v .before in let l = s .before in let w = l .before in let u = w .before in let z = u .before in let y = z .before in let a = y .before .before in number-write _ _ _ _ _ _ _ (a .before .before .before .before .before .before .before .before .before .pre) _ (a .count-answer .ensures) _ _ (y .c .given .1) (u .if1 .left) _ (w .wide .ensures .0) _ (l .length-rule .ensures) _ (s .size .ensures) _ (v .if2 .taken)
 
 same-length : tie.Need-same-length
 same-length c = search needs
 
 returns-3 : tie.Need-returns-3
-returns-3 c = let x = c .before .before in let v = x .before .before in let s = v .before in let l = s .before in let w = l .before in let u = w .before in let z = u .before in let y = z .before in let a = y .before .before in number-is _ _ _ _ _ _ _ (a .before .before .before .before .before .before .before .before .before .pre) _ (a .count-answer .ensures) _ _ (y .c .given .1) (u .if1 .left) _ (w .wide .ensures .0) _ (l .length-rule .ensures) _ (s .size .ensures) _ (v .if2 .taken) _ _ (x .write-rule .ensures)
+returns-3 c = let x = c .before .before in let v = x .before .before .before in let s = v .before in let l = s .before in let w = l .before in let u = w .before in let z = u .before in let y = z .before in let a = y .before .before in number-is _ _ _ _ _ _ _ (a .before .before .before .before .before .before .before .before .before .pre) _ (a .count-answer .ensures) _ _ (y .c .given .1) (u .if1 .left) _ (w .wide .ensures .0) _ (l .length-rule .ensures) _ (s .size .ensures) _ (v .if2 .taken) _ _ _ (x .write-rule .ensures)
 
 returns-4 : tie.Need-returns-4
 returns-4 c = let s = c .before in let l = s .before in let w = l .before in let u = w .before in let z = u .before in let y = z .before in let a = y .before .before in number-long _ _ _ _ _ _ _ (a .before .before .before .before .before .before .before .before .before .pre) _ (a .count-answer .ensures) _ _ (y .c .given .1) (u .if1 .left) _ (w .wide .ensures .0) _ (l .length-rule .ensures) _ (s .size .ensures) _ (c .if2 .left)

@@ -25,13 +25,13 @@ wide-requires : tie.Need-wide-requires
 wide-requires c κs = search needs
 
 expand-rule-requires : tie.Need-expand-rule-requires
-expand-rule-requires c κs = let w = c .before in let t = w .before in let s = t .before in let k = s .before in let y = k .before in let q = y .before in let d = q .before in let a = d .before in answer-ready _ _ _ _ _ _ (a .before .before .before .before .before .before .before .before .pre) _ (a .entry-at .ensures) _ (d .entry-due .ensures) (q .if1 .left) _ (y .entry-at2 .ensures) (k .if2 .left) _ (s .size .ensures) (t .if3 .taken) _ (w .wide .ensures .0)
+expand-rule-requires c κs = let w = c .before .before in let t = w .before in let s = t .before in let k = s .before in let y = k .before in let q = y .before in let d = q .before in let a = d .before in answer-ready _ _ _ _ _ _ (a .before .before .before .before .before .before .before .before .pre) _ (a .entry-at .ensures) _ (d .entry-due .ensures) (q .if1 .left) _ (y .entry-at2 .ensures) (k .if2 .left) _ (s .size .ensures) (t .if3 .taken) _ (w .wide .ensures .0)
 
 same-length : tie.Need-same-length
 same-length c = search needs
 
 returns-3 : tie.Need-returns-3
-returns-3 c = let x = c .before .before in let w = x .before .before in let t = w .before in let s = t .before in let k = s .before in let y = k .before in let q = y .before in let d = q .before in let a = d .before in answer-is _ _ _ _ _ _ (a .before .before .before .before .before .before .before .before .pre) _ (a .entry-at .ensures) _ (d .entry-due .ensures) (q .if1 .left) _ (y .entry-at2 .ensures) (k .if2 .left) _ (s .size .ensures) (t .if3 .taken) _ (w .wide .ensures .0) _ _ (x .expand-rule .ensures)
+returns-3 c = let x = c .before .before in let w = x .before .before .before in let t = w .before in let s = t .before in let k = s .before in let y = k .before in let q = y .before in let d = q .before in let a = d .before in answer-is _ _ _ _ _ _ (a .before .before .before .before .before .before .before .before .pre) _ (a .entry-at .ensures) _ (d .entry-due .ensures) (q .if1 .left) _ (y .entry-at2 .ensures) (k .if2 .left) _ (s .size .ensures) (t .if3 .taken) _ (w .wide .ensures .0) _ _ _ (x .expand-rule .ensures)
 
 returns-4 : tie.Need-returns-4
 returns-4 c = search (needs, answer-15)

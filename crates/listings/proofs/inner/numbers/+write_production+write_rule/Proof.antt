@@ -2,7 +2,7 @@ use mathlib.Core.Path.{refl}
 use Rattle.grammar.specs.Flat.{flat}
 use Rattle.listings.proofs.Along.{along-entry, along-place}
 use Rattle.listings.proofs.Measuring.{measured-find, measured-level, measured-next-at, measured-start-at}
-use Rattle.listings.proofs.Writing.{Writing, writing-end, writing-first, writing-long, writing-on, writing-one, writing-place, writing-rule, writing-start, writing-token, writing-within, written-first, written-is, written-production, written-ready}
+use Rattle.listings.proofs.Writing.{Writing, writing-end, writing-first, writing-long, writing-on, writing-one, writing-place, writing-rule, writing-start, writing-token, writing-low, written-first, written-is, written-production, written-ready}
 use borrow.Author.Needs.{needs}
 use native.Mathlib.Omega.{arith}
 use Prim.Native.Nat.{ℕ, _+_, _*_, _-_, _<_}
@@ -22,35 +22,35 @@ use Rattle.sentences.proofs.inner.expansion.expand_rule.Reads as expand-rule-re
 use Rattle.listings.proofs.inner.numbers.+write_production+write_rule.{statement}
 use Rattle.listings.proofs.inner.numbers.+write_production+write_rule.Tie.{close}
 
-abbrev μ-write-production : Measures 11 write-production-kinds.ps ℕ
+abbrev μ-write-production : Measures 12 write-production-kinds.ps ℕ
 μ-write-production κs a = a .1 .1 .1 .1 .1 .1 .1 .1 .1 .1 .0 * 2 + 1
 
-abbrev μ-write-rule : Measures 10 write-rule-kinds.ps ℕ
+abbrev μ-write-rule : Measures 11 write-rule-kinds.ps ℕ
 μ-write-rule κs a = a .1 .1 .1 .1 .1 .1 .1 .1 .1 .1 .0 * 2
 
-abbrev write-production-at : ℕ → In 11 write-production-kinds.ps
+abbrev write-production-at : ℕ → In 12 write-production-kinds.ps
 write-production-at t =
     and
-    11
+    12
     write-production-kinds.ps
-    (is 11 write-production-kinds.ps μ-write-production t)
+    (is 12 write-production-kinds.ps μ-write-production t)
     write-production.Pre
 
-abbrev write-production-below : ℕ → In 11 write-production-kinds.ps
+abbrev write-production-below : ℕ → In 12 write-production-kinds.ps
 write-production-below t =
     and
-    11
+    12
     write-production-kinds.ps
-    (falls 11 write-production-kinds.ps _<_ μ-write-production t)
+    (falls 12 write-production-kinds.ps _<_ μ-write-production t)
     write-production.Pre
 
-abbrev write-rule-at : ℕ → In 10 write-rule-kinds.ps
+abbrev write-rule-at : ℕ → In 11 write-rule-kinds.ps
 write-rule-at t =
-    and 10 write-rule-kinds.ps (is 10 write-rule-kinds.ps μ-write-rule t) write-rule.Pre
+    and 11 write-rule-kinds.ps (is 11 write-rule-kinds.ps μ-write-rule t) write-rule.Pre
 
-abbrev write-rule-below : ℕ → In 10 write-rule-kinds.ps
+abbrev write-rule-below : ℕ → In 11 write-rule-kinds.ps
 write-rule-below t =
-    and 10 write-rule-kinds.ps (falls 10 write-rule-kinds.ps _<_ μ-write-rule t) write-rule.Pre
+    and 11 write-rule-kinds.ps (falls 11 write-rule-kinds.ps _<_ μ-write-rule t) write-rule.Pre
 
 -- what is known of the functions that each calls
 abbrev write-production-calls : ℕ → write-production-lts.Claims
@@ -60,15 +60,15 @@ abbrev write-rule-calls : ℕ → write-rule-lts.Claims
 write-rule-calls t = (expand-rule-reads.Asked, expand-rule-reads.Learnt, find-reads.Asked, find-reads.Learnt, start-at-reads.Asked, start-at-reads.Learnt, write-production-below t, write-production.Post)
 
 abbrev write-production-Inv-loop : write-production-lts.InvT-loop
-write-production-Inv-loop rules owners starts symbols costs next cost choice lengths counts levels a e todo at out₀ to₀ j₀ i₀ out to j i =
-    Writing (flat rules owners starts symbols costs) cost counts levels a e todo at out₀ i j to out
+write-production-Inv-loop rules owners starts symbols costs next cost choice lengths counts levels a e todo at begun₀ out₀ to₀ j₀ i₀ begun out to j i =
+    Writing (flat rules owners starts symbols costs) cost choice counts levels a e todo at out₀ i j to begun out
 
 abbrev write-production-μ-loop : write-production-lts.MeasureT-loop
-write-production-μ-loop rules owners starts symbols costs next cost choice lengths counts levels a e todo at out₀ to₀ j₀ i₀ out to j i =
+write-production-μ-loop rules owners starts symbols costs next cost choice lengths counts levels a e todo at begun₀ out₀ to₀ j₀ i₀ begun out to j i =
     e - i
 
 write-production-loop-holds : (t : ℕ) → write-production-lts.Need-loop-holds (write-production-calls t) (write-production-at t) write-production.Post write-production-Inv-loop write-production-μ-loop
-write-production-loop-holds t c = writing-start _ _ _ _ _ _ _ _ _ _ _ _ (c .before .before .before .before .before .before .before .before .pre .1)
+write-production-loop-holds t c = writing-start _ _ _ _ _ _ _ _ _ _ _ _ _ (c .before .before .before .before .before .before .before .before .pre .1)
 
 write-production-mul-s : (t : ℕ) → write-production-lts.Need-mul-s (write-production-calls t) (write-production-at t) write-production.Post write-production-Inv-loop write-production-μ-loop
 write-production-mul-s t c = search needs
@@ -80,19 +80,19 @@ write-production-add-i : (t : ℕ) → write-production-lts.Need-add-i (write-pr
 write-production-add-i t c = search needs
 
 write-production-mul-out : (t : ℕ) → write-production-lts.Need-mul-out (write-production-calls t) (write-production-at t) write-production.Post write-production-Inv-loop write-production-μ-loop
-write-production-mul-out t c = let i = c .before .before in let l = i .before in omega (arith, writing-within _ _ _ _ _ _ _ _ _ _ _ _ (l .before .before .before .before .before .before .before .before .before .pre .1) _ _ _ _ (l .loop .inv) (i .loop-test .taken) _ refl (c .if1 .taken), l .before .before .before .before .before .before .before .before .before .good .1 .1 .1 .1 .1 .1 .1 .1 .1 .1 .1 .1 .1 .1 .1 .0 .1)
+write-production-mul-out t c = let i = c .before .before in let l = i .before in omega (arith, writing-low _ _ _ _ _ _ _ _ _ _ _ _ _ (l .before .before .before .before .before .before .before .before .before .pre .1) _ _ _ _ _ (l .loop .inv) (i .loop-test .taken) _ refl (c .if1 .taken))
 
 write-production-slice-write-out : (t : ℕ) → write-production-lts.Need-slice-write-out (write-production-calls t) (write-production-at t) write-production.Post write-production-Inv-loop write-production-μ-loop
-write-production-slice-write-out t c = let i = c .before .before in let l = i .before in writing-place _ _ _ _ _ _ _ _ _ _ _ _ (l .before .before .before .before .before .before .before .before .before .pre .1) _ _ _ _ (l .loop .inv) (i .loop-test .taken) _ refl (c .if1 .taken)
+write-production-slice-write-out t c = let i = c .before .before in let l = i .before in writing-place _ _ _ _ _ _ _ _ _ _ _ _ _ (l .before .before .before .before .before .before .before .before .before .pre .1) _ _ _ _ _ (l .loop .inv) (i .loop-test .taken) _ refl (c .if1 .taken)
 
 write-production-add-to : (t : ℕ) → write-production-lts.Need-add-to (write-production-calls t) (write-production-at t) write-production.Post write-production-Inv-loop write-production-μ-loop
-write-production-add-to t c = let i = c .before .before in let l = i .before in omega (arith, writing-within _ _ _ _ _ _ _ _ _ _ _ _ (l .before .before .before .before .before .before .before .before .before .pre .1) _ _ _ _ (l .loop .inv) (i .loop-test .taken) _ refl (c .if1 .taken), l .before .before .before .before .before .before .before .before .before .good .1 .1 .1 .1 .1 .1 .1 .1 .1 .1 .1 .1 .1 .1 .1 .0 .0)
+write-production-add-to t c = let i = c .before .before in let l = i .before in omega (arith, writing-low _ _ _ _ _ _ _ _ _ _ _ _ _ (l .before .before .before .before .before .before .before .before .before .pre .1) _ _ _ _ _ (l .loop .inv) (i .loop-test .taken) _ refl (c .if1 .taken))
 
 write-production-loop-less : (t : ℕ) → write-production-lts.Need-loop-less (write-production-calls t) (write-production-at t) write-production.Post write-production-Inv-loop write-production-μ-loop
 write-production-loop-less t c = search needs
 
 write-production-loop-again : (t : ℕ) → write-production-lts.Need-loop-again (write-production-calls t) (write-production-at t) write-production.Post write-production-Inv-loop write-production-μ-loop
-write-production-loop-again t c = let i = c .before .before in let l = i .before in writing-token _ _ _ _ _ _ _ _ _ _ _ _ (l .before .before .before .before .before .before .before .before .before .pre .1) _ _ _ _ (l .loop .inv) (i .loop-test .taken) _ refl (c .if1 .taken)
+write-production-loop-again t c = let i = c .before .before in let l = i .before in writing-token _ _ _ _ _ _ _ _ _ _ _ _ _ (l .before .before .before .before .before .before .before .before .before .pre .1) _ _ _ _ _ (l .loop .inv) (i .loop-test .taken) _ refl (c .if1 .taken)
 
 write-production-wide-requires : (t : ℕ) → write-production-lts.Need-wide-requires (write-production-calls t) (write-production-at t) write-production.Post write-production-Inv-loop write-production-μ-loop
 write-production-wide-requires t c κs = search needs
@@ -101,13 +101,13 @@ write-production-entry-at-requires : (t : ℕ) → write-production-lts.Need-ent
 write-production-entry-at-requires t c κs = let w = c in let u = w .before in let i = u .before .before in let l = i .before in along-entry _ _ _ _ _ _ _ _ _ _ (l .before .before .before .before .before .before .before .before .before .pre .1 .measure) _ _ (l .loop .inv .along) (i .loop-test .taken) _ refl (u .if1 .left) _ (w .wide .ensures .0)
 
 write-production-expand-rule-requires : (t : ℕ) → write-production-lts.Need-expand-rule-requires (write-production-calls t) (write-production-at t) write-production.Post write-production-Inv-loop write-production-μ-loop
-write-production-expand-rule-requires t c κs = let v = c .before in let n = v .before in let w = n .before in let u = w .before in let i = u .before .before in let l = i .before in writing-first _ _ _ _ _ _ _ _ _ _ _ _ (l .before .before .before .before .before .before .before .before .before .pre .1) _ _ _ _ (l .loop .inv) (i .loop-test .taken) _ refl (u .if1 .left) _ (w .wide .ensures .0) _ (n .entry-at .ensures) (v .if2 .taken)
+write-production-expand-rule-requires t c κs = let v = c .before .before in let n = v .before in let w = n .before in let u = w .before in let i = u .before .before in let l = i .before in writing-first _ _ _ _ _ _ _ _ _ _ _ _ _ (l .before .before .before .before .before .before .before .before .before .pre .1) _ _ _ _ _ (l .loop .inv) (i .loop-test .taken) _ refl (u .if1 .left) _ (w .wide .ensures .0) _ (n .entry-at .ensures) (v .if2 .taken)
 
 write-production-loop-less-2 : (t : ℕ) → write-production-lts.Need-loop-less-2 (write-production-calls t) (write-production-at t) write-production.Post write-production-Inv-loop write-production-μ-loop
 write-production-loop-less-2 t c = search needs
 
 write-production-loop-again-2 : (t : ℕ) → write-production-lts.Need-loop-again-2 (write-production-calls t) (write-production-at t) write-production.Post write-production-Inv-loop write-production-μ-loop
-write-production-loop-again-2 t c = let y = c .before .before in let v = y .before .before in let n = v .before in let w = n .before in let u = w .before in let i = u .before .before in let l = i .before in writing-one _ _ _ _ _ _ _ _ _ _ _ _ (l .before .before .before .before .before .before .before .before .before .pre .1) _ _ _ _ (l .loop .inv) (i .loop-test .taken) _ refl (u .if1 .left) _ (w .wide .ensures .0) _ (n .entry-at .ensures) (v .if2 .taken) _ _ (y .expand-rule .ensures)
+write-production-loop-again-2 t c = let y = c .before .before in let v = y .before .before .before in let n = v .before in let w = n .before in let u = w .before in let i = u .before .before in let l = i .before in writing-one _ _ _ _ _ _ _ _ _ _ _ _ _ (l .before .before .before .before .before .before .before .before .before .pre .1) _ _ _ _ _ (l .loop .inv) (i .loop-test .taken) _ refl (u .if1 .left) _ (w .wide .ensures .0) _ (n .entry-at .ensures) (v .if2 .taken) _ _ _ (y .expand-rule .ensures)
 
 write-production-mul-write-rule : (t : ℕ) → write-production-lts.Need-mul-write-rule (write-production-calls t) (write-production-at t) write-production.Post write-production-Inv-loop write-production-μ-loop
 write-production-mul-write-rule t c = let v = c in let n = v .before in let w = n .before in let u = w .before in let i = u .before .before in let l = i .before in omega (arith, along-place _ _ _ _ _ _ _ _ _ _ (l .before .before .before .before .before .before .before .before .before .pre .1 .measure) _ _ (l .loop .inv .along) (i .loop-test .taken) _ refl (u .if1 .left) _ (w .wide .ensures .0) _ (n .entry-at .ensures) (v .if2 .left))
@@ -120,31 +120,31 @@ write-production-element-copy-out-write-rule :
 write-production-element-copy-out-write-rule t c = let v = c in let n = v .before in let w = n .before in let u = w .before in let i = u .before .before in let l = i .before in along-place _ _ _ _ _ _ _ _ _ _ (l .before .before .before .before .before .before .before .before .before .pre .1 .measure) _ _ (l .loop .inv .along) (i .loop-test .taken) _ refl (u .if1 .left) _ (w .wide .ensures .0) _ (n .entry-at .ensures) (v .if2 .left)
 
 write-production-write-rule-requires : (t : ℕ) → write-production-lts.Need-write-rule-requires (write-production-calls t) (write-production-at t) write-production.Post write-production-Inv-loop write-production-μ-loop
-write-production-write-rule-requires t c κs = let v = c .before .before in let n = v .before in let w = n .before in let u = w .before in let i = u .before .before in let l = i .before in (omega (arith, l .before .before .before .before .before .before .before .before .before .pre .0), writing-rule _ _ _ _ _ _ _ _ _ _ _ _ (l .before .before .before .before .before .before .before .before .before .pre .1) _ _ _ _ (l .loop .inv) (i .loop-test .taken) _ refl (u .if1 .left) _ (w .wide .ensures .0) _ (n .entry-at .ensures) (v .if2 .left) _ refl)
+write-production-write-rule-requires t c κs = let v = c .before .before .before in let n = v .before in let w = n .before in let u = w .before in let i = u .before .before in let l = i .before in (omega (arith, l .before .before .before .before .before .before .before .before .before .pre .0), writing-rule _ _ _ _ _ _ _ _ _ _ _ _ _ (l .before .before .before .before .before .before .before .before .before .pre .1) _ _ _ _ _ (l .loop .inv) (i .loop-test .taken) _ refl (u .if1 .left) _ (w .wide .ensures .0) _ (n .entry-at .ensures) (v .if2 .left) _ refl)
 
 write-production-add-j : (t : ℕ) → write-production-lts.Need-add-j (write-production-calls t) (write-production-at t) write-production.Post write-production-Inv-loop write-production-μ-loop
-write-production-add-j t c = let v = c .before .before .before .before .before in let n = v .before in let w = n .before in let u = w .before in let i = u .before .before in let l = i .before in omega (arith, along-place _ _ _ _ _ _ _ _ _ _ (l .before .before .before .before .before .before .before .before .before .pre .1 .measure) _ _ (l .loop .inv .along) (i .loop-test .taken) _ refl (u .if1 .left) _ (w .wide .ensures .0) _ (n .entry-at .ensures) (v .if2 .left))
+write-production-add-j t c = let v = c .before .before .before .before .before .before in let n = v .before in let w = n .before in let u = w .before in let i = u .before .before in let l = i .before in omega (arith, along-place _ _ _ _ _ _ _ _ _ _ (l .before .before .before .before .before .before .before .before .before .pre .1 .measure) _ _ (l .loop .inv .along) (i .loop-test .taken) _ refl (u .if1 .left) _ (w .wide .ensures .0) _ (n .entry-at .ensures) (v .if2 .left))
 
 write-production-loop-less-3 : (t : ℕ) → write-production-lts.Need-loop-less-3 (write-production-calls t) (write-production-at t) write-production.Post write-production-Inv-loop write-production-μ-loop
 write-production-loop-less-3 t c = search needs
 
 write-production-loop-again-3 : (t : ℕ) → write-production-lts.Need-loop-again-3 (write-production-calls t) (write-production-at t) write-production.Post write-production-Inv-loop write-production-μ-loop
-write-production-loop-again-3 t c = let y = c .before .before in let v = y .before .before .before in let n = v .before in let w = n .before in let u = w .before in let i = u .before .before in let l = i .before in writing-on _ _ _ _ _ _ _ _ _ _ _ _ (l .before .before .before .before .before .before .before .before .before .pre .1) _ _ _ _ (l .loop .inv) (i .loop-test .taken) _ refl (u .if1 .left) _ (w .wide .ensures .0) _ (n .entry-at .ensures) (v .if2 .left) _ refl _ _ (y .write-rule .ensures)
+write-production-loop-again-3 t c = let y = c .before .before in let v = y .before .before .before .before in let n = v .before in let w = n .before in let u = w .before in let i = u .before .before in let l = i .before in writing-on _ _ _ _ _ _ _ _ _ _ _ _ _ (l .before .before .before .before .before .before .before .before .before .pre .1) _ _ _ _ _ (l .loop .inv) (i .loop-test .taken) _ refl (u .if1 .left) _ (w .wide .ensures .0) _ (n .entry-at .ensures) (v .if2 .left) _ refl _ _ _ (y .write-rule .ensures)
 
 write-production-same-length : (t : ℕ) → write-production-lts.Need-same-length (write-production-calls t) (write-production-at t) write-production.Post write-production-Inv-loop write-production-μ-loop
-write-production-same-length t c = let l = c .before in writing-long _ _ _ _ _ _ _ _ _ _ _ _ (l .before .before .before .before .before .before .before .before .before .pre .1) _ _ _ _ (l .loop .inv)
+write-production-same-length t c = let l = c .before in writing-long _ _ _ _ _ _ _ _ _ _ _ _ _ (l .before .before .before .before .before .before .before .before .before .pre .1) _ _ _ _ _ (l .loop .inv)
 
 write-production-returns : (t : ℕ) → write-production-lts.Need-returns (write-production-calls t) (write-production-at t) write-production.Post write-production-Inv-loop write-production-μ-loop
-write-production-returns t c = let l = c .before in writing-end _ _ _ _ _ _ _ _ _ _ _ _ (l .before .before .before .before .before .before .before .before .before .pre .1) _ _ _ _ (l .loop .inv) (c .loop-test .left)
+write-production-returns t c = let l = c .before in writing-end _ _ _ _ _ _ _ _ _ _ _ _ _ (l .before .before .before .before .before .before .before .before .before .pre .1) _ _ _ _ _ (l .loop .inv) (c .loop-test .left)
 
 write-rule-expand-rule-requires : (t : ℕ) → write-rule-lts.Need-expand-rule-requires (write-rule-calls t) (write-rule-at t) write-rule.Post
-write-rule-expand-rule-requires t c κs = let u = c .before in written-ready _ _ _ _ _ _ _ _ _ _ _ (u .before .before .before .before .before .before .before .before .before .pre .1) (u .if1 .taken)
+write-rule-expand-rule-requires t c κs = let u = c .before .before in written-ready _ _ _ _ _ _ _ _ _ _ _ _ (u .before .before .before .before .before .before .before .before .before .pre .1) (u .if1 .taken)
 
 write-rule-same-length : (t : ℕ) → write-rule-lts.Need-same-length (write-rule-calls t) (write-rule-at t) write-rule.Post
 write-rule-same-length t c = search needs
 
 write-rule-returns : (t : ℕ) → write-rule-lts.Need-returns (write-rule-calls t) (write-rule-at t) write-rule.Post
-write-rule-returns t c = let y = c .before .before in let u = y .before .before in written-first _ _ _ _ _ _ _ _ _ _ _ (u .before .before .before .before .before .before .before .before .before .pre .1) (u .if1 .taken) _ _ (y .expand-rule .ensures)
+write-rule-returns t c = let y = c .before .before in let u = y .before .before .before in written-first _ _ _ _ _ _ _ _ _ _ _ _ (u .before .before .before .before .before .before .before .before .before .pre .1) (u .if1 .taken) _ _ _ (y .expand-rule .ensures)
 
 write-rule-sub-find : (t : ℕ) → write-rule-lts.Need-sub-find (write-rule-calls t) (write-rule-at t) write-rule.Post
 write-rule-sub-find t c = measured-level _ _ _ _ _ _ _ _ _ (c .before .before .before .before .before .before .before .before .before .pre .1 .measure)
@@ -165,13 +165,13 @@ write-rule-sub-write-production : (t : ℕ) → write-rule-lts.Need-sub-write-pr
 write-rule-sub-write-production t c = let f = c .before .before in measured-level _ _ _ _ _ _ _ _ _ (f .before .before .before .before .before .before .before .before .before .before .before .pre .1 .measure)
 
 write-rule-write-production-requires : (t : ℕ) → write-rule-lts.Need-write-production-requires (write-rule-calls t) (write-rule-at t) write-rule.Post
-write-rule-write-production-requires t c κs = let q = c .before .before in let i = q .before in let f = i .before in (omega (arith, f .before .before .before .before .before .before .before .before .before .before .before .pre .0, measured-level _ _ _ _ _ _ _ _ _ (f .before .before .before .before .before .before .before .before .before .before .before .pre .1 .measure)), written-production _ _ _ _ _ _ _ _ _ _ _ (f .before .before .before .before .before .before .before .before .before .before .before .pre .1) _ _ (f .find .ensures) _ _ (i .start-at .ensures .0) (q .start-at2 .ensures .0))
+write-rule-write-production-requires t c κs = let q = c .before .before .before in let i = q .before in let f = i .before in (omega (arith, f .before .before .before .before .before .before .before .before .before .before .before .pre .0, measured-level _ _ _ _ _ _ _ _ _ (f .before .before .before .before .before .before .before .before .before .before .before .pre .1 .measure)), written-production _ _ _ _ _ _ _ _ _ _ _ _ (f .before .before .before .before .before .before .before .before .before .before .before .pre .1) _ _ (f .find .ensures) _ _ (i .start-at .ensures .0) (q .start-at2 .ensures .0))
 
 write-rule-same-length-2 : (t : ℕ) → write-rule-lts.Need-same-length-2 (write-rule-calls t) (write-rule-at t) write-rule.Post
 write-rule-same-length-2 t c = search needs
 
 write-rule-returns-2 : (t : ℕ) → write-rule-lts.Need-returns-2 (write-rule-calls t) (write-rule-at t) write-rule.Post
-write-rule-returns-2 t c = let y = c .before .before in let q = y .before .before .before in let i = q .before in let f = i .before in written-is _ _ _ _ _ _ _ _ _ _ _ (f .before .before .before .before .before .before .before .before .before .before .before .pre .1) _ _ (f .find .ensures) _ _ (i .start-at .ensures .0) (q .start-at2 .ensures .0) _ _ (y .write-production .ensures)
+write-rule-returns-2 t c = let y = c .before .before in let q = y .before .before .before .before in let i = q .before in let f = i .before in written-is _ _ _ _ _ _ _ _ _ _ _ _ (f .before .before .before .before .before .before .before .before .before .before .before .pre .1) _ _ (f .find .ensures) _ _ (i .start-at .ensures .0) (q .start-at2 .ensures .0) _ _ _ (y .write-production .ensures)
 
 pub +write-production+write-rule-spec : {M : Type 1} → statement M
 +write-production+write-rule-spec =

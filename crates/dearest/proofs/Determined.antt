@@ -3,6 +3,7 @@ use mathlib.Core.List.{List}
 use mathlib.Core.Path.{_≡_, sym, _∙_}
 use Prim.Native.Nat.{ℕ, _<_}
 use native.Mathlib.Omega.{arith}
+use lib.Seq.{ext-getD}
 use Rattle.theory.specs.Visits.{Costs, Row}
 use Rattle.theory.proofs.Dearest.{dearest-one}
 use Rattle.source.specs.MaxCosts.{start, Loops, Returns, Comparable}
@@ -17,11 +18,10 @@ use Rattle.tables.proofs.Calls.{Alike, call-one, filled-one, leaves-one}
 use Rattle.costs.specs.Calls.{fillDue}
 use Rattle.dearest.specs.Calls.{Fill}
 use Rattle.dearest.specs.Defined.{DearestDefined}
-use Rattle.dearest.proofs.Rounding.{numbers-same}
 
 -- the defined table is one
 pub dearest-defined-one : (g : Flat) (a b : List ℕ) → DearestDefined g a → DearestDefined g b → a ≡ b
-dearest-defined-one g a b x y = numbers-same a b (x .long ∙ sym (y .long)) (λ r lr. let l : r < g .rules = omega (arith, x .long) in dearest-one (x .exact r l) (y .exact r l))
+dearest-defined-one g a b x y = ext-getD 0 a b (x .long ∙ sym (y .long)) (λ r lr. let l : r < g .rules = omega (arith, x .long) in dearest-one (x .exact r l) (y .exact r l))
 
 pub fill-one : (g : Flat) (ws : List ℕ) {a b : List ℕ} {r s : Filled} → Fill g ws r a → Fill g ws s b → Alike r s a b
 fill-one g ws {r = r} {s = s} x y = let o = call-one (leaves-one (dearest-defined-one g)) (fillDue g (numbersWrong (g .rules) ws)) x y in record { answer = filled-one r s (o .said); left = o .left }

@@ -3,10 +3,9 @@ use mathlib.Core.Bool.{Bool, true, false, _||_}
 use mathlib.Core.List.{List}
 use mathlib.Core.Path.{_≡_, refl, sym, _∙_, ap, subst, fun-ext}
 use Prim.Native.Nat.{ℕ, _+_, _*_, _≤_, _<_, min}
-use native.Mathlib.Decide.{decLt}
 use native.Mathlib.Omega.{arith}
 use lib.Dec.{leb}
-use lib.ListN.{length, length-map, replicate, length-replicate, getD-replicate, List·getD-eq-default}
+use lib.ListN.{length, length-map, replicate, length-replicate, List·getD-eq-default}
 use lib.Seq.{ext-getD, slice, length-slice}
 use Rattle.theory.specs.DearestVisits.{noBound, dearestVisit, dearestCleared}
 use Rattle.theory.specs.Fills.{turn, turns, Moves}
@@ -19,16 +18,13 @@ use Rattle.grammar.specs.Flat.{Flat, at, symbol, denoted, price}
 use Rattle.grammar.specs.Well.{WellFormed}
 use Rattle.grammar.proofs.Denoted.{proper}
 use Rattle.grammar.proofs.Well.{laid-end}
+use Rattle.rows.proofs.Tables.{cleared-at}
 use Rattle.tables.specs.Call.{Stepped}
 use Rattle.tables.proofs.Stepping.{Stepping, round-start, round-held, round-inv, round-on, round-end}
 use Rattle.costs.specs.Rounds.{Long}
 use Rattle.dearest.specs.Defined.{DearestCleared}
 use Rattle.dearest.specs.Rounds.{DearestBegun, DearestRounds, DearestFound}
 use Rattle.dearest.specs.Step.{DearestReady, DearestBecame}
-
--- numbers with the same entries are the same numbers
-pub numbers-same : (a b : List ℕ) → length a ≡ length b → ((r : ℕ) → r < length a → at a r ≡ at b r) → a ≡ b
-numbers-same a b e h = ext-getD 0 a b e h
 
 -- the entries of a table of its length
 begun-risen : (g : Flat) (l : List ℕ) → DearestBegun g l → Risen (g .rules) (at l)
@@ -59,7 +55,7 @@ module _ (g : Flat) (w : WellFormed g) (beyond : Bool) where
     shows = λ p lt a b x. fun-ext (x .entries);
     spares = λ p lt a b x. x .long;
     stays = λ p lt a h e. record { long = refl; entries = λ r. ap (λ z. z r) (sym e) };
-    unique = λ p a b d x y. numbers-same b d (x .long ∙ sym (y .long)) (λ r lr. x .entries r ∙ sym (y .entries r));
+    unique = λ p a b d x y. ext-getD 0 b d (x .long ∙ sym (y .long)) (λ r lr. x .entries r ∙ sym (y .entries r));
   }
 
 -- the first i productions of a round have had their turn
@@ -100,10 +96,7 @@ dearestLeft g i changed now = stageLeft (denoted g) i changed (at now)
 
 -- none known
 zeros-cleared : (n : ℕ) → at (replicate n 0) ≡ dearestCleared
-zeros-cleared n = fun-ext (λ r. elim (decLt r n) [
-  | yes l ↦ getD-replicate n r 0 0 l
-  | no l ↦ List·getD-eq-default (replicate n 0) 0 (omega (arith, length-replicate {A = ℕ} n 0))
-])
+zeros-cleared n = fun-ext (cleared-at n 0)
 
 pub settle-start : (g : Flat) (l : List ℕ) → DearestCleared g l → DearestStage g 0 true l
 settle-start g l c = record {

@@ -8,7 +8,7 @@ use native.Mathlib.Decide.{decLe, decLt, ℕ-discrete}
 use native.Mathlib.Nat.{one-mul, mul-one}
 use native.Mathlib.Omega.{arith}
 use lib.Dec.{leb}
-use lib.ListN.{length, getD, set, replicate, length-set, length-replicate, getD-replicate, List·getD-eq-default}
+use lib.ListN.{length, getD, set, replicate, length-set, length-replicate}
 use lib.Seq.{getD-set-same, getD-set-other}
 use borrow.Author.Tests.{le-leb, leb-true, leb-false, ltb-true, lt-ltb}
 use Rattle.theory.specs.Grammar.{rul}
@@ -30,6 +30,7 @@ use Rattle.grammar.specs.Flat.{Flat, at, form, denoted, price}
 use Rattle.grammar.specs.Links.{Leads}
 use Rattle.grammar.proofs.Denoted.{proper}
 use Rattle.grammar.proofs.Forms.{form-done, form-token, form-rule, prod-in, Placed, placed}
+use Rattle.rows.proofs.Tables.{cleared-at}
 use Rattle.costs.specs.Lent.{costsOf}
 use Rattle.costs.proofs.Summing.{default-same}
 use Rattle.sentences.specs.Choosing.{FromReady, CheapestFrom}
@@ -418,17 +419,11 @@ pub record Filling (g : Flat) (cost : List ℕ) (r : ℕ) (counts shallow : List
 
 unknown-counts : (n : ℕ) → countsOf (replicate n 65537) ≡ countCleared
 unfolding countsOf
-unknown-counts n = fun-ext (λ r. elim (decLt r n) [
-  | yes l ↦ getD-replicate n r 65537 65537 l
-  | no l ↦ List·getD-eq-default (replicate {A = ℕ} n 65537) 65537 {n = r} (omega (arith, length-replicate {A = ℕ} n 65537))
-])
+unknown-counts n = fun-ext (cleared-at n 65537)
 
 no-levels : levelsOf (replicate 512 0) ≡ (λ r. 0)
 unfolding levelsOf
-no-levels = fun-ext (λ r. elim (decLt r 512) [
-  | yes l ↦ getD-replicate 512 r 0 0 l
-  | no l ↦ List·getD-eq-default (replicate {A = ℕ} 512 0) 0 {n = r} (omega (arith, length-replicate {A = ℕ} 512 0))
-])
+no-levels = fun-ext (cleared-at 512 0)
 
 module _ (g : Flat) (next cost choice old : List ℕ) (ok : CountFillable g next cost choice old) where
   pub filling-start : (counts : List ℕ) → counts ≡ replicate (length old) 65537 → Filling g cost 0 counts (replicate 512 0)

@@ -6,7 +6,7 @@ use Prim.Native.Nat.{ℕ, _+_, _-_, _≤_, _<_, min}
 use native.Mathlib.Decide.{decLt, ℕ-discrete}
 use native.Mathlib.Omega.{arith}
 use lib.Dec.{eqb, ltb}
-use lib.ListN.{length, getD, set, replicate, length-set, length-replicate, getD-replicate, List·getD-eq-default}
+use lib.ListN.{length, getD, set, replicate, length-set, length-replicate}
 use lib.Seq.{getD-set-same, getD-set-other}
 use borrow.Author.Tests.{le-leb, lt-leb, ltb-true, ltb-false, le-ltb, eq-eqb, ne-eqb}
 use Rattle.theory.specs.Below.{FirstBelow}
@@ -19,6 +19,7 @@ use Rattle.grammar.specs.Flat.{Flat, flat, at, ProdAt, form, denoted, price}
 use Rattle.grammar.specs.Links.{Leads, Linked, Linkable}
 use Rattle.grammar.proofs.Forms.{Placed, placed}
 use Rattle.grammar.proofs.Linking.{linkable}
+use Rattle.rows.proofs.Tables.{cleared-at}
 use Rattle.costs.specs.Lent.{costsOf, sumOf}
 use Rattle.costs.specs.Step.{Pricing, CostReady}
 use Rattle.costs.proofs.Stepping.{cost-lists, pricing}
@@ -140,12 +141,6 @@ pub record Choosing (g : Flat) (cost : List ℕ) (r : ℕ) (choice : List ℕ) :
   pub done : (q : ℕ) → q < r → FirstBelow (suits (denoted g) (price g) (costsOf cost) q) (length (g .owners)) (ltb (getD choice q 4096) 4096) (getD choice q 4096)
   pub left : (q : ℕ) → r ≤ q → getD choice q 4096 ≡ 4096
 
-unpicked : (r : ℕ) → _≡_ {A = ℕ} (getD (replicate 512 4096) r 4096) 4096
-unpicked r = elim (decLt r 512) [
-  | yes l ↦ getD-replicate 512 r 4096 4096 l
-  | no l ↦ List·getD-eq-default (replicate {A = ℕ} 512 4096) 4096 {n = r} (omega (arith, length-replicate {A = ℕ} 512 4096))
-]
-
 module _ (g : Flat) (cost choice₀ : List ℕ) (ok : Choosable g cost choice₀) where
   pub choice-links : Linkable (g .owners) (replicate 512 4096) (replicate 4096 4096)
   choice-links = linkable (g .owners) (ok .well .sizes .prods-high) (λ p l. omega (arith, ok .well .owner p l, ok .well .sizes .rules-high))
@@ -155,7 +150,7 @@ module _ (g : Flat) (cost choice₀ : List ℕ) (ok : Choosable g cost choice₀
     below = omega arith;
     room = ap length (ok .none) ∙ length-replicate {A = ℕ} 512 4096;
     done = λ q l. absurd (omega arith);
-    left = λ q l. ap (λ z. getD z q 4096) (ok .none) ∙ unpicked q;
+    left = λ q l. ap (λ z. getD z q 4096) (ok .none) ∙ cleared-at 512 4096 q;
   }
 
   module _ (head next : List ℕ) (links : Linked 512 4096 (g .owners) head next 0) (r : ℕ) (choice : List ℕ) (c : Choosing g cost r choice) where

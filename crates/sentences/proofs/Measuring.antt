@@ -3,10 +3,10 @@ use mathlib.Core.Bool.{Bool, true, false, not, cond, _&&_, _||_, false≢true, t
 use mathlib.Core.List.{List}
 use mathlib.Core.Path.{_≡_, refl, sym, ap, _∙_, subst, fun-ext}
 use Prim.Native.Nat.{ℕ, _+_, _-_, _≤_, _<_, min}
-use native.Mathlib.Decide.{ℕ-discrete, decLt}
+use native.Mathlib.Decide.{ℕ-discrete}
 use native.Mathlib.Omega.{arith}
 use lib.Dec.{eqb, leb}
-use lib.ListN.{length, getD, set, replicate, length-set, length-replicate, getD-replicate, List·getD-eq-default}
+use lib.ListN.{length, getD, set, replicate, length-set, length-replicate, List·getD-eq-default}
 use lib.Seq.{getD-set-same, getD-set-other, ext-getD}
 use borrow.Author.Tests.{leb-true, le-leb, lt-ltb, le-ltb, eq-eqb, ne-eqb}
 use Rattle.theory.specs.Below.{count}
@@ -21,6 +21,7 @@ use Rattle.grammar.specs.Flat.{Flat, flat, at, form, denoted, price}
 use Rattle.grammar.specs.Well.{WellFormed}
 use Rattle.grammar.proofs.Denoted.{proper}
 use Rattle.grammar.proofs.Forms.{prod-in, Placed, placed}
+use Rattle.rows.proofs.Tables.{cleared-at}
 use Rattle.costs.proofs.Summing.{default-same}
 use Rattle.tables.specs.Call.{Stepped}
 use Rattle.tables.proofs.Stepping.{Stepping, round-start, round-held, round-on, round-end, settle-start, settle-held, settle-inv, settle-on, settle-end, settle-less}
@@ -233,10 +234,7 @@ module _ (g : Flat) (choice l : List ℕ) (b : LengthBegun g choice l) where
 -- a fill: from no length known to the defined ones
 unknown-lengths : (n : ℕ) → lengthsOf (replicate n 65537) ≡ lengthCleared
 unfolding lengthsOf
-unknown-lengths n = fun-ext (λ r. elim (decLt r n) [
-  | yes l ↦ getD-replicate n r 65537 65537 l
-  | no l ↦ List·getD-eq-default (replicate {A = ℕ} n 65537) 65537 {n = r} (omega (arith, length-replicate {A = ℕ} n 65537))
-])
+unknown-lengths n = fun-ext (cleared-at n 65537)
 
 module _ (g : Flat) (choice lengths : List ℕ) (ok : LengthFillable g choice lengths) (mid : List ℕ) (e : mid ≡ replicate (length lengths) 65537) where
   shown : lengthsOf mid ≡ lengthCleared

@@ -16,21 +16,6 @@ Inv-loop words all₀ k₀ all k = (k ≤ 8) × (not (eqb all 0) ≡ someLit k w
 abbrev μ-loop : tie.MeasureT-loop
 μ-loop words all₀ k₀ all k = 8 - k
 
-loop-holds : tie.Need-loop-holds Inv-loop μ-loop
-loop-holds c = (search needs, sym (some-none _))
-
-mul-all : tie.Need-mul-all Inv-loop μ-loop
-mul-all c = search needs
-
-array-read-all : tie.Need-array-read-all Inv-loop μ-loop
-array-read-all c = search needs
-
-add-k : tie.Need-add-k Inv-loop μ-loop
-add-k c = search needs
-
-loop-less : tie.Need-loop-less Inv-loop μ-loop
-loop-less c = search needs
-
 loop-again : tie.Need-loop-again Inv-loop μ-loop
 loop-again c = (search needs, lit-more (c .before .before .args .t1) (c .before .loop .all) _ (c .before .loop .inv .1))
 
@@ -40,4 +25,13 @@ returns c = let l = c .before in l .loop .inv .1 ∙ some-end _ 8 _ (l .loop .in
 pub is-some-spec : {M : Type 1} → statement M
 is-some-spec =
     tie.close
-    (tie.spec Inv-loop μ-loop loop-holds mul-all array-read-all add-k loop-less loop-again returns)
+    (tie.spec
+    Inv-loop
+    μ-loop
+    (λ c. (search needs, sym (some-none _)))  -- loop-holds
+    (λ c. search needs)  -- mul-all
+    (λ c. search needs)  -- array-read-all
+    (λ c. search needs)  -- add-k
+    (λ c. search needs)  -- loop-less
+    loop-again
+    returns)

@@ -14,10 +14,8 @@ use Rattle.theory.specs.Visits.{Costs, sumCost, lower, costVisit}
 use Rattle.theory.proofs.Bools.{or-split, or-none, or-left, or-right}
 use Rattle.theory.proofs.Fills.{turned}
 use Rattle.grammar.specs.Flat.{Flat, denoted, price}
-use Rattle.costs.specs.Lent.{costsOf}
-use Rattle.costs.specs.Rounds.{CostBegun}
-use Rattle.costs.specs.Reads.{Agrees, Adds, Calm, Lowerable, Lowers, LateRounds}
-use Rattle.costs.proofs.Moving.{costLeft, cost-less}
+use Rattle.engine.specs.Cost.{costsOf, CostBegun, Agrees, Adds, Calm, Lowerable, Lowers, LateRounds}
+use Rattle.engine.proofs.CostMoving.{costLeft, cost-less}
 use Rattle.costs.proofs.Rounding.{CostTurned, cost-begin, cost-ready, cost-on, cost-end, CostSettle, cost-again}
 
 -- a visit raises no entry

@@ -21,9 +21,9 @@ use Rattle.tables.specs.Call.{Call}
 use Rattle.tables.specs.Sizes.{words, tableWrong, rowWrong, numbersWrong}
 use Rattle.tables.proofs.Asking.{table-long, row-long, numbers-long}
 use Rattle.tables.proofs.Calls.{call-refused, call-does}
-use Rattle.firsts.specs.Lent.{lent as firsts, Held as FirstHeld}
+use Rattle.engine.specs.First.{lent as firsts, Held as FirstHeld}
+use Rattle.engine.specs.Follow.{reads, lent}
 use Rattle.follows.specs.Calls.{lentWrong}
-use Rattle.follows.specs.Lent.{reads, lent}
 use Rattle.jobs.specs.declared.Job.{Job}
 use Rattle.jobs.specs.Kinds.{Tables, tables, readOf, first, follow, productive, cost, kindOf, kindWrong, FollowHeld, Held, Visit}
 use Rattle.jobs.specs.Calls.{progress, progressOf, jobAt, jobWrong, sliceDue, lends, Works, Workable}

@@ -12,18 +12,18 @@ use Rattle.theory.specs.Slices.{Progress, fresh, Slice, full, over, visit, Slic
 use Rattle.grammar.specs.Flat.{Flat, denoted, price}
 use Rattle.grammar.specs.Well.{WellFormed}
 use Rattle.grammar.proofs.Denoted.{proper}
-use Rattle.firsts.specs.Lent.{Lent as Firsts, lent as firsts}
+use Rattle.engine.specs.First.{Lent as Firsts, lent as firsts}
+use Rattle.engine.proofs.FirstMoving.{stepping as firstStepping, begun-inv as first-inv}
+use Rattle.engine.proofs.FollowMoving.{words-in, stepping as followStepping}
+use Rattle.engine.specs.Cost.{costsOf}
+use Rattle.engine.proofs.CostMoving.{row-column, rowStepping, costs-fit, costStepping}
 use Rattle.firsts.specs.Calls.{zeros as firstZeros}
 use Rattle.firsts.proofs.Calling.{zeros-held as first-held, zeros-marks, zeros-begun, settled-defined}
-use Rattle.firsts.proofs.Moving.{stepping as firstStepping, begun-inv as first-inv}
 use Rattle.follows.specs.Calls.{begun}
 use Rattle.follows.proofs.Calling.{begun-held, begun-table, any-order, follow-defined}
-use Rattle.follows.proofs.Moving.{words-in, stepping as followStepping}
 use Rattle.tables.specs.Sizes.{words}
-use Rattle.costs.specs.Lent.{costsOf}
 use Rattle.costs.specs.Calls.{zeros as rowZeros, unknown}
 use Rattle.costs.proofs.Filling.{zeros-row, zeros-held as row-held, unknown-costs, unknown-long, row-fill-defined, cost-fill-defined}
-use Rattle.costs.proofs.Moving.{row-column, rowStepping, costs-fit, costStepping}
 use Rattle.jobs.specs.Kinds.{Tables, tables, Kind, first, follow, productive, cost, kindOf, Visit}
 use Rattle.jobs.specs.declared.Job.{Job}
 use Rattle.jobs.specs.Calls.{progressOf, Lends}

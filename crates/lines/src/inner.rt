@@ -1,7 +1,7 @@
 // Below the public calls: each appends its bytes from place `at` of a lent buffer on, and answers the place after them.
 use costs::COST_DEAR;
 use costs::COST_MAX;
-use costs::inner::entry_at;
+use engine::inner::cost::entry_at;
 use rows::inner::is_set;
 use tables::inner::numbers_wrong;
 use tables::inner::row_wrong;

@@ -13,9 +13,9 @@ use Rattle.grammar.proofs.Lowest.{after-well}
 use Rattle.grammar.proofs.Well.{well}
 use Rattle.tables.specs.Call.{Call}
 use Rattle.tables.proofs.Calls.{call-refused, call-does}
-use Rattle.firsts.specs.Lent.{lent as firsts}
+use Rattle.engine.specs.First.{lent as firsts}
+use Rattle.engine.specs.Follow.{Lent, lent, reads}
 use Rattle.follows.specs.Calls.{lentWrong, Fillable, Tables}
-use Rattle.follows.specs.Lent.{Lent, lent, reads}
 use Rattle.follows.proofs.Calling.{wrong-as, fillable as follow-fillable}
 use Rattle.profiles.specs.declared.Verdict.{Verdict as Answer}
 use Rattle.profiles.specs.Calls.{verdictIs, profileDue, Judges, Judgeable, Judging}

@@ -18,7 +18,7 @@ use Rattle.tables.specs.Call.{Call}
 use Rattle.tables.specs.Sizes.{numbersWrong}
 use Rattle.tables.proofs.Asking.{numbers-long}
 use Rattle.tables.proofs.Calls.{call-refused, call-does}
-use Rattle.costs.specs.Lent.{costsOf}
+use Rattle.engine.specs.Cost.{costsOf}
 use Rattle.sentences.specs.Query.{lends, sentenceDue, Says, Sentenced}
 use Rattle.sentences.specs.Working.{Workable, Worked, Finished}
 

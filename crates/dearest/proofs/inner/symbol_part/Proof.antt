@@ -1,4 +1,4 @@
-use Rattle.costs.proofs.Summing.{token-in, rule-in}
+use Rattle.engine.proofs.Summing.{token-in, rule-in}
 use Rattle.dearest.proofs.Summing.{part-token, part-rule}
 use borrow.Author.Needs.{needs}
 use Rattle.dearest.proofs.inner.symbol_part.Statement.{statement}

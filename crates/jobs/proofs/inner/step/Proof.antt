@@ -16,9 +16,9 @@ step-spec =
     (λ c. search needs)  -- same-length-4
     (λ c. search needs)  -- same-length-5
     (λ c. search (needs, made-follow))  -- returns-2
-    (λ c κs. search (needs, ready-row))  -- productive-step-requires
+    (λ c κs. search (needs, ready-row))  -- step-requires-3
     (λ c. search needs)  -- same-length-6
     (λ c. search (needs, made-row))  -- returns-3
-    (λ c κs. search (needs, ready-cost))  -- cost-step-requires
+    (λ c κs. search (needs, ready-cost))  -- step-requires-4
     (λ c. search needs)  -- same-length-7
     (λ c. search (needs, made-cost)))  -- returns-4

@@ -5,7 +5,7 @@ use Rattle.theory.specs.Clashes.{pairOf}
 use Rattle.theory.proofs.Below.{Scanned, scan-found, scan-on, scan-none}
 use Rattle.theory.proofs.Bools.{told}
 use Rattle.grammar.specs.Flat.{flat, denoted}
-use Rattle.firsts.specs.Lent.{lent as firsts}
+use Rattle.engine.specs.First.{lent as firsts}
 use Rattle.profiles.specs.Rows.{marksIn, followIn}
 use Rattle.profiles.proofs.Pairing.{look-start, look-at}
 use Rattle.profiles.proofs.inner.higher.Statement.{statement}

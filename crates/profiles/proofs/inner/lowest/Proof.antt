@@ -2,7 +2,7 @@ use borrow.Author.Needs.{needs}
 use Prim.Native.Nat.{_≤_}
 use lib.ListN.{length}
 use Rattle.grammar.specs.Flat.{flat}
-use Rattle.firsts.specs.Lent.{lent as firsts}
+use Rattle.engine.specs.First.{lent as firsts}
 use Rattle.profiles.specs.Rows.{Turns}
 use Rattle.profiles.proofs.Turning.{turns-none, turnable, turns-all}
 use Rattle.profiles.proofs.inner.lowest.Statement.{statement}

@@ -2,8 +2,8 @@ use borrow.Author.Needs.{needs}
 use mathlib.Core.Path.{_≡_, refl}
 use Prim.Native.Nat.{_-_}
 use Rattle.tables.specs.Sizes.{words}
-use Rattle.firsts.specs.Lent.{lent as firsts}
-use Rattle.firsts.proofs.Walking.{walk-end, token-place, walk-token, first-place, empty-place, walk-on, walk-stop, joined-from}
+use Rattle.engine.specs.First.{lent as firsts}
+use Rattle.engine.proofs.FirstWalking.{walk-end, token-place, walk-token, first-place, empty-place, walk-on, walk-stop, joined-from}
 use Rattle.profiles.proofs.Walking.{Going, going-start}
 use Rattle.profiles.proofs.inner.walk.Statement.{statement}
 use Rattle.profiles.proofs.inner.walk.Tie as tie

@@ -13,7 +13,7 @@ use Rattle.listings.proofs.inner.counts.+count_production+count_rule.Lt
 use Rattle.listings.proofs.inner.counts.count_rule.Reads as count-rule
 use Rattle.listings.proofs.inner.counts.count_rule.Kinds as count-rule-kinds
 use Rattle.listings.proofs.inner.counts.+count_production+count_rule.Lts-count_rule as count-rule-lts
-use Rattle.costs.proofs.inner.entry_at.Reads as entry-at-reads
+use Rattle.engine.proofs.inner.cost.entry_at.Reads as entry-at-reads
 use Rattle.grammar.proofs.inner.start_at.Reads as start-at-reads
 use Rattle.grammar.proofs.inner.wide.Reads as wide-reads
 use Rattle.listings.proofs.inner.counts.times.Reads as times-reads

@@ -13,7 +13,7 @@ use Rattle.listings.proofs.inner.numbers.+length_production+length_rule
 use Rattle.listings.proofs.inner.numbers.length_rule.Reads as length-rule
 use Rattle.listings.proofs.inner.numbers.length_rule.Kinds as length-rule-kinds
 use Rattle.listings.proofs.inner.numbers.+length_production+length_rule.Lts-length_rule as length-rule-lts
-use Rattle.costs.proofs.inner.entry_at.Reads as entry-at-reads
+use Rattle.engine.proofs.inner.cost.entry_at.Reads as entry-at-reads
 use Rattle.grammar.proofs.inner.start_at.Reads as start-at-reads
 use Rattle.grammar.proofs.inner.wide.Reads as wide-reads
 use Rattle.listings.proofs.inner.numbers.find.Reads as find-reads

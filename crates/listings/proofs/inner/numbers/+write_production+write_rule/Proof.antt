@@ -14,7 +14,7 @@ use Rattle.listings.proofs.inner.numbers.+write_production+write_rule.L
 use Rattle.listings.proofs.inner.numbers.write_rule.Reads as write-rule
 use Rattle.listings.proofs.inner.numbers.write_rule.Kinds as write-rule-kinds
 use Rattle.listings.proofs.inner.numbers.+write_production+write_rule.Lts-write_rule as write-rule-lts
-use Rattle.costs.proofs.inner.entry_at.Reads as entry-at-reads
+use Rattle.engine.proofs.inner.cost.entry_at.Reads as entry-at-reads
 use Rattle.grammar.proofs.inner.start_at.Reads as start-at-reads
 use Rattle.grammar.proofs.inner.wide.Reads as wide-reads
 use Rattle.listings.proofs.inner.numbers.find.Reads as find-reads

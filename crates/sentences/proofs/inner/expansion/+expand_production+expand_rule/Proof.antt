@@ -13,7 +13,7 @@ use Rattle.sentences.proofs.inner.expansion.+expand_production+expand_r
 use Rattle.sentences.proofs.inner.expansion.expand_rule.Reads as expand-rule
 use Rattle.sentences.proofs.inner.expansion.expand_rule.Kinds as expand-rule-kinds
 use Rattle.sentences.proofs.inner.expansion.+expand_production+expand_rule.Lts-expand_rule as expand-rule-lts
-use Rattle.costs.proofs.inner.entry_at.Reads as entry-at-reads
+use Rattle.engine.proofs.inner.cost.entry_at.Reads as entry-at-reads
 use Rattle.grammar.proofs.inner.start_at.Reads as start-at-reads
 use Rattle.grammar.proofs.inner.wide.Reads as wide-reads
 use Rattle.sentences.proofs.inner.expansion.copy.Reads as copy-reads

@@ -1,0 +1,4 @@
+pub mod First
+pub mod Follow
+pub mod Productive
+pub mod Cost

@@ -80,3 +80,8 @@ module _ (g : Flat) (ds : List (Bool × ℕ)) where
         go : (o : Outcome (Unit {0})) → checkOf g ≡ o → NoneOf ds → unlessDue g (ends ds x) ≡ x
         go (answers tt) q h = after-well g Well _ (sym q) refl ∙ ends-goes x ds h
         go (refused m) q h = absurd (not-both (sym d ∙ after-refused g (Refused m) _ m (sym q) refl))
+
+-- two refusals of one number are one
+pub unless-or : {A : Type 0} (a b : Bool) (n : ℕ) (x : Outcome A) → unless a n (unless b n x) ≡ unless (a || b) n x
+unless-or true b n x = refl
+unless-or false b n x = refl

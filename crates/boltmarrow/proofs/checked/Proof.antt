@@ -1,4 +1,4 @@
-use mathlib.Core.Path.{sym, ap}
+use mathlib.Core.Path.{sym, _∙_, ap}
 use Rattle.boltmarrow.specs.Exports.{checkedAnswer}
 use borrow.Author.Needs.{needs}
 use Rattle.boltmarrow.proofs.checked.Statement.{statement}
@@ -9,7 +9,8 @@ checked-spec =
     tie.close
     (tie.spec
     (λ c. search needs)  -- enum-told
+    (λ c κs. search needs)  -- answered-requires
     (λ c. search needs)  -- enum-known-c
-    (λ c. search needs)  -- cast-t4
-    (λ c. sym (ap checkedAnswer (c .enum-told .given .1)))  -- returns
-    (λ c. sym (ap checkedAnswer (c .before .c .given .1))))  -- returns-2
+    (λ c κs. search needs)  -- refused-requires
+    (λ c. c .answered .ensures ∙ sym (ap checkedAnswer (c .before .enum-told .given .1)))  -- returns
+    (λ c. c .refused .ensures ∙ sym (ap checkedAnswer (c .before .before .c .given .1))))  -- returns-2

@@ -1,4 +1,4 @@
-use mathlib.Core.Path.{sym, ap}
+use mathlib.Core.Path.{sym, _∙_, ap}
 use Rattle.boltmarrow.specs.Exports.{filledAnswer}
 use borrow.Author.Needs.{needs}
 use Rattle.boltmarrow.proofs.filled.Statement.{statement}
@@ -9,7 +9,8 @@ filled-spec =
     tie.close
     (tie.spec
     (λ c. search needs)  -- enum-told
+    (λ c κs. search needs)  -- answered-requires
     (λ c. search needs)  -- enum-known-f
-    (λ c. search needs)  -- cast-t4
-    (λ c. sym (ap filledAnswer (c .enum-told .given .1)))  -- returns
-    (λ c. sym (ap filledAnswer (c .before .f .given .1))))  -- returns-2
+    (λ c κs. search needs)  -- refused-requires
+    (λ c. c .answered .ensures ∙ sym (ap filledAnswer (c .before .enum-told .given .1)))  -- returns
+    (λ c. c .refused .ensures ∙ sym (ap filledAnswer (c .before .before .f .given .1))))  -- returns-2

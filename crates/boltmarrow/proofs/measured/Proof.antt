@@ -1,4 +1,4 @@
-use mathlib.Core.Path.{sym, ap}
+use mathlib.Core.Path.{sym, _∙_, ap}
 use Rattle.boltmarrow.specs.Exports.{lengthAnswer}
 use borrow.Author.Needs.{needs}
 use Rattle.boltmarrow.proofs.measured.Statement.{statement}
@@ -9,7 +9,8 @@ measured-spec =
     tie.close
     (tie.spec
     (λ c. search needs)  -- enum-known-l
+    (λ c κs. search needs)  -- answered-requires
     (λ c. search needs)  -- enum-known-l-2
-    (λ c. search needs)  -- cast-t5
-    (λ c. sym (ap lengthAnswer (c .before .l .given .1)))  -- returns
-    (λ c. sym (ap lengthAnswer (c .before .l2 .given .1))))  -- returns-2
+    (λ c κs. search needs)  -- refused-requires
+    (λ c. c .answered .ensures ∙ sym (ap lengthAnswer (c .before .before .l .given .1)))  -- returns
+    (λ c. c .refused .ensures ∙ sym (ap lengthAnswer (c .before .before .l2 .given .1))))  -- returns-2

@@ -1,22 +1,20 @@
--- What the returns of `profile` owe, from what `check` and the tests on the way answered.
-use mathlib.Core.Bool.{Bool, true, false}
-use mathlib.Core.List.{List}
-use mathlib.Core.Path.{_≡_, sym, _∙_, ap}
+-- What the returns of `profile` owe, from what its entry answered.
+use mathlib.Core.List.{List, [], _∷_}
+use mathlib.Core.Path.{_≡_, refl}
 use Prim.Native.Nat.{ℕ}
 use lib.ListN.{length}
 use Rattle.grammar.specs.Flat.{Flat}
 use Rattle.grammar.specs.Outcome.{refused}
-use Rattle.grammar.specs.Production.{checkedIs, checkOf}
+use Rattle.grammar.specs.Production.{checkedIs, numberOf}
 use Rattle.grammar.specs.declared.Checked.{Checked}
-use Rattle.grammar.specs.declared.Checked.the-variants.{Well}
-use Rattle.grammar.proofs.Lowest.{after-well}
-use Rattle.grammar.proofs.Well.{well}
+use Rattle.grammar.specs.declared.Checked.the-variants.{Well, Refused as Not}
+use Rattle.grammar.proofs.Entry.{none-due}
 use Rattle.tables.specs.Call.{Call}
-use Rattle.tables.proofs.Calls.{call-refused, call-does}
+use Rattle.tables.proofs.Calls.{call-does, stops, enters}
 use Rattle.engine.specs.First.{lent as firsts}
 use Rattle.engine.specs.Follow.{Lent, lent, reads}
-use Rattle.follows.specs.Calls.{lentWrong, Fillable, Tables}
-use Rattle.follows.proofs.Calling.{wrong-as, fillable as follow-fillable}
+use Rattle.follows.specs.Calls.{lentWrong, LentDue, Fillable, Tables}
+use Rattle.follows.proofs.Calling.{fillable as follow-fillable}
 use Rattle.profiles.specs.declared.Verdict.{Verdict as Answer}
 use Rattle.profiles.specs.Calls.{verdictIs, profileDue, Judges, Judgeable, Judging}
 

@@ -1,3 +1,4 @@
+use native.Mathlib.Omega.{arith}
 use borrow.Author.Needs.{needs}
 use Rattle.profiles.proofs.Rowing.{in-lists, few-words, row-walkable, row-stops, follow-place, place-in, row-passes}
 use Rattle.profiles.proofs.inner.starts_row.Statement.{statement}
@@ -10,7 +11,7 @@ returns : tie.Need-returns
 returns c = let k = c .before in let q = k .before .before in let w = q .before in row-stops _ _ _ _ _ _ _ _ (w .before .before .before .before .before .before .before .before .pre) _ _ _ _ (w .wide .ensures .0) (q .prod-at .ensures) _ _ (k .walk .ensures) (c .if1 .taken)
 
 words-for-requires : tie.Need-words-for-requires
-words-for-requires c κs = let k = c .before .before in let w = k .before .before .before in few-words _ _ _ _ _ _ _ _ (w .before .before .before .before .before .before .before .before .pre)
+words-for-requires c κs = let k = c .before .before in let w = k .before .before .before in omega (arith, few-words _ _ _ _ _ _ _ _ (w .before .before .before .before .before .before .before .before .pre))
 
 join-from-requires : tie.Need-join-from-requires
 join-from-requires c κs = let k = c .before .before .before in let q = k .before .before in let w = q .before in follow-place _ _ _ _ _ _ _ _ (w .before .before .before .before .before .before .before .before .pre) _ _ _ _ (w .wide .ensures .0) (q .prod-at .ensures) _ _ (k .walk .ensures) _ (c .words-for .ensures)

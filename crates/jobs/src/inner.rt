@@ -169,7 +169,7 @@ pub fn work(
 // Refusal 7: a table of the kind is not of its exact length. The others are not looked at.
 fn wrong(
     kind: u16,
-    rules: usize,
+    rules: u16,
     tokens: usize,
     first: &[u32],
     empty: &[u32],
@@ -182,15 +182,22 @@ fn wrong(
     ensures { λ r. ⌜ r ≡ kindWrong (kindOf kind (tables (now (first .entry)) (now (empty .entry)) (now (follow .entry)) (now (productive .entry)) (now (cost .entry)) (now (reached .entry)))) rules tokens (tables (now (first .entry)) (now (empty .entry)) (now (follow .entry)) (now (productive .entry)) (now (cost .entry)) (now (reached .entry))) ⌝ }
 {
     if kind == JOB_FIRST {
-        return table_wrong(rules, tokens, first) | row_wrong(rules, empty);
+        return table_wrong(rules, tokens, first.len()) | row_wrong(rules, empty.len());
     }
     if kind == JOB_FOLLOW {
-        return follows::inner::wrong(rules, tokens, follow, first, empty, reached);
+        return follows::inner::wrong(
+            rules,
+            tokens,
+            follow.len(),
+            first.len(),
+            empty.len(),
+            reached.len(),
+        );
     }
     if kind == JOB_PRODUCTIVE {
-        return row_wrong(rules, productive);
+        return row_wrong(rules, productive.len());
     }
-    numbers_wrong(rules, cost)
+    numbers_wrong(rules, cost.len())
 }
 
 // What a slice leaves of the job, and what it answers.
@@ -234,7 +241,7 @@ pub fn sliced(
     }
     if wrong(
         kind,
-        wide(rules),
+        rules,
         costs.len(),
         first,
         empty,

@@ -182,7 +182,7 @@ pub fn write(
 
 // Refusal 7 for the four tables.
 pub fn tables_wrong(
-    rules: usize,
+    rules: u16,
     tokens: usize,
     empty: &[u32],
     first: &[u32],
@@ -192,9 +192,9 @@ pub fn tables_wrong(
     requires { ⌜ (rules ≤ 512) × (tokens ≤ 512) ⌝ }
     ensures { λ r. ⌜ r ≡ tablesWrong rules tokens (tables (now (empty .entry)) (now (first .entry)) (now (follow .entry)) (now (cost .entry))) ⌝ }
 {
-    row_wrong(rules, empty)
-        | (table_wrong(rules, tokens, first)
-            | (table_wrong(rules, tokens, follow) | numbers_wrong(rules, cost)))
+    row_wrong(rules, empty.len())
+        | (table_wrong(rules, tokens, first.len())
+            | (table_wrong(rules, tokens, follow.len()) | numbers_wrong(rules, cost.len())))
 }
 
 // Refusal 7 for the room.

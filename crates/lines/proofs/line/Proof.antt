@@ -1,9 +1,13 @@
+use mathlib.Core.Path.{refl}
 use Rattle.grammar.proofs.Callers.{few-rules, few-tokens}
 use Rattle.tables.proofs.Calls.{refuses}
 use Rattle.lines.proofs.Calling.{line-7, line-9, line-ready, line-count, line-does}
 use borrow.Author.Needs.{needs}
 use Rattle.lines.proofs.line.Statement.{statement}
 use Rattle.lines.proofs.line.Tie as tie
+
+tables-wrong-requires : tie.Need-tables-wrong-requires
+tables-wrong-requires c κs = let m = c .before in let k = m .before .before in (few-rules _ _ _ _ _ _ (k .check .ensures) (m .enum-told .given .1) _ refl, few-tokens _ _ _ _ _ _ (k .check .ensures) (m .enum-told .given .1))
 
 write-requires : tie.Need-write-requires
 write-requires c κs = let d = c .before in let v = d .before in let s = v .before in let o = s .before in let t = o .before .before in let w = t .before in let m = w .before in let k = m .before .before in line-ready _ _ _ _ _ _ _ _ _ _ _ _ (k .check .ensures) (m .enum-told .given .1) _ (w .wide .ensures .0) _ _ (t .tables-wrong .ensures) (o .out-wrong .ensures) (s .if1 .left) _ (v .wide2 .ensures .0) (d .if2 .left)
@@ -18,7 +22,7 @@ line-spec =
     (λ c κs. search needs)  -- number-requires
     (λ c. search (needs, refuses))  -- returns
     (λ c κs. search needs)  -- wide-requires
-    (λ c κs. search (needs, few-rules, few-tokens))  -- tables-wrong-requires
+    tables-wrong-requires
     (λ c κs. search needs)  -- out-wrong-requires
     (λ c. search needs)  -- same-length
     (λ c. search (needs, line-7))  -- returns-2

@@ -8,7 +8,6 @@ use native.Mathlib.Omega.{arith}
 use lib.Dec.{ltb}
 use lib.ListN.{length}
 use borrow.Author.Tests.{lt-ltb, le-ltb}
-use Rattle.theory.specs.Grammar.{Form}
 use Rattle.theory.specs.Visits.{Table, Row}
 use Rattle.grammar.specs.Flat.{Flat, at, symbol, form, denoted}
 use Rattle.grammar.proofs.Forms.{form-done, form-more, symbol-token, symbol-rule}

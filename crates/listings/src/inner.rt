@@ -2,8 +2,8 @@
 use crate::COUNT_MANY;
 use crate::COUNT_MAX;
 use crate::Counted;
-use engine::inner::cost::entry_at;
 use costs::inner::entry_due;
+use engine::inner::cost::entry_at;
 use grammar::Checked;
 use grammar::inner::links;
 use grammar::inner::wide;

@@ -1,20 +1,24 @@
 -- Which kind a number means: what its step asks, and what it leaves.
-use mathlib.Core.Bool.{Bool, true, false, not, cond, _&&_, and-true}
+use mathlib.Core.Bool.{Bool, true, false, not, cond, _&&_, and-true, false≢true}
 use mathlib.Core.List.{List}
 use mathlib.Core.Path.{_≡_, refl, sym, ap, _∙_, subst}
-use Prim.Native.Nat.{ℕ, _≤_, min}
+use Prim.Native.Nat.{ℕ, _+_, _≤_, _<_, min}
 use native.Mathlib.Omega.{arith}
 use lib.Dec.{eqb, leb}
+use lib.ListN.{length}
 use borrow.Author.Tests.{ne-eqb}
 use Rattle.theory.specs.Grammar.{Grammar}
 use Rattle.theory.specs.Visits.{Costs, sumCost, lower, costVisit}
-use Rattle.grammar.specs.Flat.{Flat, denoted, price}
+use Rattle.grammar.specs.Flat.{Flat, at, form, denoted, price}
+use Rattle.grammar.specs.Well.{WellFormed}
+use Rattle.grammar.proofs.Well.{laid-end}
 use Rattle.tables.specs.Call.{Stepped}
-use Rattle.engine.specs.First.{Lent, lent, FirstBecame, TurnReady}
+use Rattle.engine.specs.First.{Lent, lent, Ready as FirstReady, FirstBecame, plain, Stretches}
 use Rattle.engine.specs.Follow.{Reads, FollowBecame, StepReady}
 use Rattle.engine.specs.Productive.{ProductiveBecame, RowReady}
 use Rattle.engine.specs.Cost.{costsOf, CostBecame, Agrees, Adds, Calm as CostCalm, Lowerable, Lowers}
 use Rattle.engine.specs.Kinds.{Kind, first, follow, productive, cost, kindAt, Beside, view, makes, Quiet, Calm, Became, Ready, Steps}
+use Rattle.engine.proofs.FirstMoving.{became-same}
 use Rattle.engine.proofs.Instances.{stepping, calm-quiet}
 
 -- a step of the table alone
@@ -54,6 +58,10 @@ visit-le g k p c r = go (eqb r (g .owner p))
 calm-kept : (g : Flat) (p : ℕ) (read read′ : List Bool) (now next : Costs) → Adds read read′ → ((r : ℕ) → next r ≤ now r) → Agrees read′ next now → CostCalm g p read now → CostCalm g p read′ next
 calm-kept g p read read′ now next a le ag c d ld gd = c d (λ r. omega (arith, ld r, le r)) (λ r b. gd r (a .keeps r b) ∙ ag r (a .keeps r b))
 
+-- the test whether a production is plain
+pub plain-in : (g : Flat) (p : ℕ) → WellFormed g → p < length (g .owners) → Stretches (g .starts) (g .symbols) p
+plain-in g p w lt = record { starts-in = omega (arith, w .laid .long); rise = w .laid .rise p lt; fits = laid-end (w .laid) lt }
+
 module _ (n : ℕ) (from : Reads) (g : Flat) (again : Bool) (p : ℕ) (table row : List ℕ) (read : List Bool) (ok : Ready (kindAt n from) g again p (lent table row) read) where
   ready : (k : Kind) → kindAt n from ≡ k → Ready k g again p (lent table row) read
   ready k is = subst (λ z. Ready z g again p (lent table row) read) is ok
@@ -67,8 +75,14 @@ module _ (n : ℕ) (from : Reads) (g : Flat) (again : Bool) (p : ℕ) (table row
   plain-made k is into z to s x y e = made k is x (x && not y) to read (rw (e .0, e .1, and-true z) (plainly k g again p (lent table row) read into (ready k is) z to s))
 
   module _ (e : n ≡ 0) where
-    pub ready-first : TurnReady g p again (lent table row)
-    ready-first = let q = ready first (ap (λ z. kindAt z from) e) in record { ready = record { well = q .well; isProd = q .isProd; held = q .held }; quiet = q .due }
+    -- a plain one is passed over
+    pub made-plain : again ≡ true → (b : Bool) → b ≡ plain (form (g .symbols) (at (g .starts) p) (at (g .starts) (p + 1))) → b ≡ true → (x y : Bool) → (x ≡ false) × (y ≡ false) → Steps (kindAt n from) g p (lent table row) read x (x && not y) (lent table row) read
+    unfolding form
+    made-plain t b eb k = let q = ready first (ap (λ z. kindAt z from) e) in plain-made first (ap (λ z. kindAt z from) e) (λ q m c. c) false (lent table row)
+        (record { became = became-same g (q .well) p (q .isProd) (lent table row) (q .held) (q .due t (sym eb ∙ k)); told = λ z. absurd (false≢true z); still = λ z. refl })
+
+    pub ready-first : FirstReady g p (lent table row)
+    ready-first = let q = ready first (ap (λ z. kindAt z from) e) in record { well = q .well; isProd = q .isProd; held = q .held }
 
     pub made-first : (z : Bool) (t o : List ℕ) → Stepped (FirstBecame g p (lent table row)) (lent table row) z (lent t o) → (x y : Bool) → (x ≡ z) × (y ≡ false) → Steps (kindAt n from) g p (lent table row) read x (x && not y) (lent t o) read
     made-first z t o s = plain-made first (ap (λ z. kindAt z from) e) (λ q m c. c) z (lent t o) s

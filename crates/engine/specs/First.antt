@@ -71,8 +71,3 @@ pub record Stretches (starts symbols : List ℕ) (p : ℕ) : Type 0 where
   pub starts-in : p + 1 < length starts
   pub rise : at starts p ≤ at starts (p + 1)
   pub fits : at starts (p + 1) ≤ length symbols
-
--- what a production's turn asks: after a round, a plain one is quiet
-pub record TurnReady (g : Flat) (p : ℕ) (again : Bool) (l : Lent) : Type 0 where
-  pub ready : Ready g p l
-  pub quiet : again ≡ true → plain (denoted g .body p) ≡ true → firstVisit (denoted g) p (marksOf (g .rules) (length (g .costs)) l) ≡ marksOf (g .rules) (length (g .costs)) l

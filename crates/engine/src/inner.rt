@@ -39,7 +39,8 @@ fn told(changed: bool) -> Moved
 }
 
 // Production p's step. FIRST is `table` and EMPTY `row`; else `table` is the one that is written. FOLLOW reads `first`,
-// `empty` and `reached`. COST marks in `read` the rules that it reads. `again` if each production had its turn.
+// `empty` and `reached`. COST marks in `read` the rules that it reads. `again` if each production had its turn:
+// then FIRST passes over plain ones, and FOLLOW goes by what is fed.
 pub fn step(
     kind: u16,
     rules: u16,
@@ -60,7 +61,10 @@ pub fn step(
     ensures { λ r. ⌜ Steps (kindAt kind (reads (lent (now (first .entry)) (now (empty .entry))) (now (reached .entry)))) (flat rules (now (owners .entry)) (now (starts .entry)) (now (symbols .entry)) (now (costs .entry))) p (lent (now (table .entry)) (now (row .entry))) (now (read .entry)) (r .changed) (r .changed && not (r .early)) (lent (now (table .exit)) (now (row .exit))) (now (read .exit)) ⌝ }
 {
     if kind == FIRST {
-        return told(first::turn(rules, owners, starts, symbols, costs, again, p, table, row));
+        if again && first::is_plain(starts, symbols, p) {
+            return told(false);
+        }
+        return told(first::step(rules, owners, starts, symbols, costs, p, table, row));
     }
     if kind == FOLLOW {
         return told(follow::step(

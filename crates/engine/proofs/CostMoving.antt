@@ -1,9 +1,9 @@
 -- A step on lent words is a visit of what they hold: PRODUCTIVE's marks, COST's entries.
-use mathlib.Core.Bool.{Bool, true, cond, false≢true}
+use mathlib.Core.Bool.{true, false≢true}
 use mathlib.Core.List.{List}
 use mathlib.Core.Logic.{inl, inr}
 use mathlib.Core.Path.{_≡_, refl, sym, ap, _∙_, subst, fun-ext}
-use Prim.Native.Nat.{ℕ, zero, suc, _+_, _-_, _*_, _<_}
+use Prim.Native.Nat.{ℕ, zero, suc, _*_, _≤_, _<_}
 use native.Mathlib.Omega.{arith}
 use lib.Dec.{eqb}
 use lib.ListN.{length, List·getD-eq-default}
@@ -11,9 +11,9 @@ use lib.Seq.{ext-getD}
 use borrow.Author.Tests.{eqb-true}
 use Rattle.theory.specs.Visits.{productiveVisit, costVisit}
 use Rattle.theory.proofs.Bools.{and-split, or-split}
-use Rattle.theory.proofs.Count.{Inside, sum, marks, column, climb}
+use Rattle.theory.proofs.Count.{Inside, marks, column, climb}
 use Rattle.theory.proofs.CostRounds.{Fits, cost-climb}
-use Rattle.theory.proofs.Fills.{Filling, left, Settling}
+use Rattle.theory.proofs.Fills.{Filling}
 use Rattle.theory.proofs.Productive.{productive-marked}
 use Rattle.grammar.specs.Flat.{Flat, at, denoted, price}
 use Rattle.grammar.specs.Well.{WellFormed}
@@ -21,9 +21,9 @@ use Rattle.grammar.proofs.Denoted.{proper}
 use Rattle.rows.specs.Tables.{Sized, RowBecame}
 use Rattle.rows.proofs.Row.{row-inside, row-self, row-one, row-view}
 use Rattle.tables.specs.Sizes.{words}
-use Rattle.tables.proofs.Stepping.{Stepping, settle-less}
-use Rattle.engine.specs.Productive.{rowOf, ProductiveBecame, RowSpared, RowRounds}
-use Rattle.engine.specs.Cost.{costsOf, CostBecame, Long, CostRounds, CostBegun}
+use Rattle.tables.proofs.Stepping.{Stepping}
+use Rattle.engine.specs.Productive.{rowOf, ProductiveBecame, RowSpared}
+use Rattle.engine.specs.Cost.{costsOf, CostBecame, Long}
 
 -- PRODUCTIVE
 pub row-same : (R : ℕ) (a : List ℕ) → RowSpared R a a
@@ -68,9 +68,9 @@ module _ (g : Flat) (w : WellFormed g) where
   }
 
 -- COST
-pub costs-fit : (g : Flat) (cost : List ℕ) → CostBegun g cost → Fits (g .rules) (costsOf cost)
+pub costs-fit : (g : Flat) (cost : List ℕ) → length cost ≡ g .rules → ((r : ℕ) → costsOf cost r ≤ 65537) → Fits (g .rules) (costsOf cost)
 unfolding costsOf
-costs-fit g cost b = record { cap = b .cap; out = λ r le. List·getD-eq-default cost 65537 (omega (arith, b .long)) }
+costs-fit g cost long cap = record { cap = cap; out = λ r le. List·getD-eq-default cost 65537 (omega arith) }
 
 -- numbers with the same entries are the same numbers
 pub costs-words : (a b : List ℕ) → length a ≡ length b → ((r : ℕ) → costsOf a r ≡ costsOf b r) → a ≡ b
@@ -96,19 +96,3 @@ module _ (g : Flat) (w : WellFormed g) where
     stays = λ p lt a h e. record { long = refl; entries = λ r. ap (λ z. z r) (sym e) };
     unique = λ p a b d x y. costs-words b d (x .long ∙ sym (y .long)) (λ r. x .entries r ∙ sym (y .entries r));
   }
-
--- one for a round still to be made, and one for each mark that it can make, or each step down of an entry
-abbrev pub rowLeft : ℕ → List ℕ → Bool → ℕ
-rowLeft R ws changed = cond changed (R * 1 - marks R 1 (column (rowOf R ws)) + 1) 0
-
-abbrev pub costLeft : ℕ → List ℕ → Bool → ℕ
-costLeft R ws changed = cond changed (R * 65537 - sum R (λ r. 65537 - costsOf ws r) + 1) 0
-
-module _ (g : Flat) (w : WellFormed g) (l : List ℕ) (x : Bool) (now : List ℕ) (down y : Bool) (next : List ℕ) where
-  pub row-less : Sized 1 (words (g .rules)) l → Settling (productiveVisit (denoted g)) (rowOf (g .rules)) (RowSpared (g .rules)) (length (g .owners)) l x now → RowRounds g down now y next → x ≡ true → rowLeft (g .rules) next y < rowLeft (g .rules) now x
-  unfolding left climb productive-marked
-  row-less h s m e = settle-less (rowStepping g w) l h (row-column (g .rules) l) x now s down y next m e
-
-  pub cost-less : CostBegun g l → Settling (costVisit (denoted g) (price g)) costsOf Long (length (g .owners)) l x now → CostRounds g down now y next → x ≡ true → costLeft (g .rules) next y < costLeft (g .rules) now x
-  unfolding left cost-climb
-  cost-less b s m e = settle-less (costStepping g w) l (b .long) (costs-fit g l b) x now s down y next m e

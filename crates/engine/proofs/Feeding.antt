@@ -1,17 +1,16 @@
 -- What is fed: a visit feeds its production, no visit takes it back, and a fed production's visit is the joining at its end.
 use mathlib.Core.Bool.{true, false, _&&_, _||_, and-false, or-false}
-use mathlib.Core.List.{List, [], _∷_, List·Memᴰ, List·Memᴰ·cases-cons, List·Memᴰ·not-nil}
+use mathlib.Core.List.{[], _∷_}
 use mathlib.Core.Logic.{inl, inr}
 use mathlib.Core.Path.{_≡_, refl, sym, _∙_, ap, subst, fun-ext}
-use Prim.Native.Nat.{ℕ, _<_}
+use Prim.Native.Nat.{ℕ}
 use lib.Dec.{eqb}
 use borrow.Author.Tests.{eqb-true}
 use Rattle.theory.specs.Grammar.{Sym, tok, rul, Form, Grammar}
-use Rattle.theory.specs.Rounds.{run, Round}
 use Rattle.theory.specs.Visits.{Table, Row, Marks, nullable, firstOf, followBack, followVisit}
 use Rattle.theory.proofs.Bools.{and-split, and-join, or-split, or-left, or-right, bool-eq, eqb-same}
 use Rattle.theory.proofs.Count.{Under}
-use Rattle.theory.proofs.Follow.{follow-back-under, follow-visit-under}
+use Rattle.theory.proofs.Follow.{follow-back-under}
 use Rattle.engine.specs.Follow.{Fed, tailBack}
 
 module _ (m : Marks) where
@@ -57,28 +56,11 @@ module _ (g : Grammar) (m : Marks) where
       same : followBack m o (rul A ∷ v) f ≡ (λ r t. b r t || (eqb r A && (nullable (m .empty) v && b o t)))
       same = fun-ext (λ r. fun-ext (λ t. drop-ahead r t))
 
--- lists of visits, over any reached row
+-- over any reached row
 module _ (g : Grammar) (m : Marks) (s : Row) where
-  pub run-under : (v : List ℕ) (f : Table) → Under f (run (followVisit g m s) v f)
-  run-under [] f r t e = e
-  run-under (p ∷ v) f r t e = run-under v (followVisit g m s p f) r t (follow-visit-under g m s p f r t e)
-
   -- a visit of a reached rule's production feeds it
-  visit-feeds : (p : ℕ) (f : Table) → s (g .owner p) ≡ true → Fed m (g .body p) (followVisit g m s p f)
+  pub visit-feeds : (p : ℕ) (f : Table) → s (g .owner p) ≡ true → Fed m (g .body p) (followVisit g m s p f)
   visit-feeds p f c = rw c (fed-back g m (g .owner p) (g .body p) f)
-
-  run-feeds : (v : List ℕ) (f : Table) (p : ℕ) → s (g .owner p) ≡ true → List·Memᴰ p v → Fed m (g .body p) (run (followVisit g m s) v f)
-  run-feeds [] f p c k = absurd (List·Memᴰ·not-nil k)
-  run-feeds (q ∷ v) f p c k =
-      let ih : List·Memᴰ p v → Fed m (g .body p) (run (followVisit g m s) v (followVisit g m s q f)) = λ n. run-feeds v (followVisit g m s q f) p c n in
-      elim (List·Memᴰ·cases-cons k) [
-        | inl e ↦ fed-under m (g .body p) (followVisit g m s q f) _ (run-under v (followVisit g m s q f)) (subst (λ z. Fed m (g .body p) (followVisit g m s z f)) e (visit-feeds p f c))
-        | inr n ↦ ih n
-      ]
-
-  -- a round feeds every production of a reached rule
-  pub round-feeds : (v : List ℕ) (f : Table) → Round (g .prods) v → (p : ℕ) → p < g .prods → s (g .owner p) ≡ true → Fed m (g .body p) (run (followVisit g m s) v f)
-  round-feeds v f k p lt c = run-feeds v f p c (k .all p lt)
 
 -- once not all from here on vanishes, nothing more is joined
 pub tail-past : (e : Row) (o : ℕ) (x : Sym) (v : Form) (f : Table) → nullable e v ≡ false → tailBack e o (x ∷ v) f ≡ tailBack e o v f

@@ -21,7 +21,7 @@ use Rattle.rows.proofs.Row.{row-inside, row-self, row-one, row-view}
 use Rattle.rows.proofs.Tables.{view-inside, became-self, became-one, became-view}
 use Rattle.tables.specs.Sizes.{words}
 use Rattle.tables.proofs.Stepping.{Stepping}
-use Rattle.engine.specs.First.{Lent, lent, Held, Spared, marksOf, FirstBecame, Begun}
+use Rattle.engine.specs.First.{Lent, lent, Held, Spared, marksOf, FirstBecame}
 
 pub marks-same : (m n : Marks) → ((r t : ℕ) → m .first r t ≡ n .first r t) → ((r : ℕ) → m .empty r ≡ n .empty r) → m ≡ n
 marks-same m n f e i = record { first = fun-ext (λ r. fun-ext (λ t. f r t)) i; empty = fun-ext e i }
@@ -64,12 +64,12 @@ module _ (g : Flat) (w : WellFormed g) where
   }
 
   -- no mark for eof is what the climb asks
-  pub begun-inv : (l : Lent) → Begun g l → Inside (g .rules) (length (g .costs)) (both (marksOf (g .rules) (length (g .costs)) l))
+  pub begun-inv : (l : Lent) → ((r : ℕ) → marksOf (g .rules) (length (g .costs)) l .first r (length (g .costs) - 1) ≡ false) → Inside (g .rules) (length (g .costs)) (both (marksOf (g .rules) (length (g .costs)) l))
   begun-inv l b r zero e = (empty-in (g .rules) (length (g .costs)) l r e, omega (arith, w .sizes .tokens-low))
   begun-inv l b r (suc t) e =
       let i = first-in (g .rules) (length (g .costs)) l r t e in
       elim (ℕ-discrete t (length (g .costs) - 1)) [
-        | yes q ↦ absurd (true≢false (sym e ∙ ap (λ z. marksOf (g .rules) (length (g .costs)) l .first r z) q ∙ b .no-eof r))
+        | yes q ↦ absurd (true≢false (sym e ∙ ap (λ z. marksOf (g .rules) (length (g .costs)) l .first r z) q ∙ b r))
         | no q ↦ (i .0, omega arith)
       ]
 

@@ -16,3 +16,6 @@ pub mod Marking
 pub mod Summing
 pub mod Reading
 pub mod Lowering
+pub mod Instances
+pub mod Rounding
+pub mod Numbers

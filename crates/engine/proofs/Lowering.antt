@@ -1,5 +1,5 @@
 -- A step of COST that marks what it reads: what it leaves is calm, unless it is late.
-use mathlib.Core.Bool.{Bool, true, false, true≢false, false≢true}
+use mathlib.Core.Bool.{Bool, true, false, not, true≢false, false≢true}
 use mathlib.Core.List.{List}
 use mathlib.Core.Path.{_≡_, refl, sym, _∙_, ap, fun-ext}
 use Prim.Native.Nat.{ℕ, _≤_, _<_, min}
@@ -16,6 +16,10 @@ use Rattle.engine.specs.Cost.{costsOf, Agrees, Summable, ReadsSum, Lower
 use Rattle.engine.proofs.Reading.{adds-none}
 use Rattle.engine.proofs.CostStepping.{cut-stays, pricing, owner-in, cost-least, cost-stays, cost-lowers}
 use Rattle.engine.proofs.Summing.{entry}
+
+twice : (b : Bool) → not (not b) ≡ b
+twice true = refl
+twice false = refl
 
 -- a visit leaves a table whose entry the sum does not come below
 still : (g : Grammar) (k : ℕ → ℕ) (p : ℕ) (d : Costs) → min (d (g .owner p)) 65537 ≤ sumCost k d (g .body p) → costVisit g k p d ≡ d
@@ -77,7 +81,13 @@ module _ (rules : ℕ) (owners starts symbols costs : List ℕ) (p : ℕ) (cost 
       }
 
       -- it becomes the sum; late if it was read before
-      module _ (k : s < top) (late : Bool) (el : late ≡ getD read′ o false) where
+      module _ (k : s < top) (early : Bool) (ee : early ≡ not (getD read′ o false)) where
+        abbrev late : Bool
+        late = not early
+
+        el : late ≡ getD read′ o false
+        el = ap not ee ∙ twice (getD read′ o false)
+
         now : costsOf (set cost o s) o ≡ s
         unfolding costsOf
         now = getD-set-same cost o s 65537 lower-owner

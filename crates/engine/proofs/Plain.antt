@@ -1,13 +1,12 @@
 -- What is plain: a visit makes its production quiet, no visit takes that back, and a round makes all plain ones so.
-use mathlib.Core.Bool.{Bool, true, false, _&&_, _||_, false≢true}
-use mathlib.Core.List.{List, [], _∷_, List·Memᴰ, List·Memᴰ·cases-cons, List·Memᴰ·not-nil}
+use mathlib.Core.Bool.{true, false, _&&_, _||_, false≢true}
+use mathlib.Core.List.{[], _∷_}
 use mathlib.Core.Logic.{inl, inr}
 use mathlib.Core.Path.{_≡_, refl, sym, _∙_, ap, subst, fun-ext}
-use Prim.Native.Nat.{ℕ, zero, suc, _<_}
+use Prim.Native.Nat.{ℕ, zero, suc}
 use lib.Dec.{eqb}
 use borrow.Author.Tests.{eqb-true}
 use Rattle.theory.specs.Grammar.{tok, rul, Form, Grammar}
-use Rattle.theory.specs.Rounds.{run, Round}
 use Rattle.theory.specs.Visits.{Marks, nullable, firstOf, firstVisit}
 use Rattle.theory.proofs.Bools.{and-split, and-join, or-split, or-left, or-right, bool-eq, eqb-same}
 use Rattle.theory.proofs.Count.{Under}
@@ -54,7 +53,7 @@ module _ (g : Grammar) where
 
   module _ (p : ℕ) (k : plain (g .body p) ≡ true) where
     -- a plain production's visit makes it quiet
-    visit-quiet : (m : Marks) → firstVisit g p (firstVisit g p m) ≡ firstVisit g p m
+    pub visit-quiet : (m : Marks) → firstVisit g p (firstVisit g p m) ≡ firstVisit g p m
     visit-quiet m = still p (firstVisit g p m)
         (λ t e. or-right (m .first (g .owner p) t) (and-join (eqb-same (g .owner p)) (plain-first (g .body p) k m (firstVisit g p m) t ∙ e)))
         (λ e. or-right (m .empty (g .owner p)) (and-join (eqb-same (g .owner p)) (plain-empty (g .body p) k m (firstVisit g p m) ∙ e)))
@@ -65,24 +64,6 @@ module _ (g : Grammar) where
         (λ t e. u (g .owner p) (suc t) (has-first p m q t (plain-first (g .body p) k m n t ∙ e)))
         (λ e. u (g .owner p) zero (has-empty p m q (plain-empty (g .body p) k m n ∙ e)))
 
-  -- a list of visits
-  visit-under : (p : ℕ) (m : Marks) → Under (both m) (both (firstVisit g p m))
+  pub visit-under : (p : ℕ) (m : Marks) → Under (both m) (both (firstVisit g p m))
   visit-under p m r zero e = or-left _ e
   visit-under p m r (suc t) e = or-left _ e
-
-  pub run-under : (v : List ℕ) (m : Marks) → Under (both m) (both (run (firstVisit g) v m))
-  run-under [] m r t e = e
-  run-under (p ∷ v) m r t e = run-under v (firstVisit g p m) r t (visit-under p m r t e)
-
-  run-quiet : (v : List ℕ) (m : Marks) (p : ℕ) → plain (g .body p) ≡ true → List·Memᴰ p v → firstVisit g p (run (firstVisit g) v m) ≡ run (firstVisit g) v m
-  run-quiet [] m p k x = absurd (List·Memᴰ·not-nil x)
-  run-quiet (q ∷ v) m p k x =
-      let ih : List·Memᴰ p v → firstVisit g p (run (firstVisit g) v (firstVisit g q m)) ≡ run (firstVisit g) v (firstVisit g q m) = λ n. run-quiet v (firstVisit g q m) p k n in
-      elim (List·Memᴰ·cases-cons x) [
-        | inl e ↦ quiet-under p k (firstVisit g q m) _ (run-under v (firstVisit g q m)) (subst (λ z. firstVisit g p (firstVisit g z m) ≡ firstVisit g z m) e (visit-quiet p k m))
-        | inr n ↦ ih n
-      ]
-
-  -- a round makes every plain production quiet
-  pub round-quiet : (v : List ℕ) (m : Marks) → Round (g .prods) v → (p : ℕ) → p < g .prods → plain (g .body p) ≡ true → firstVisit g p (run (firstVisit g) v m) ≡ run (firstVisit g) v m
-  round-quiet v m x p lt k = run-quiet v m p k (x .all p lt)

@@ -10,8 +10,7 @@ use Rattle.theory.specs.Grammar.{Form}
 use Rattle.theory.specs.Visits.{Costs, allMarked, formCost, known, sumCost, costVisit}
 use Rattle.grammar.specs.Flat.{at, symbol, Flat, denoted, price}
 use Rattle.grammar.specs.Well.{WellFormed}
-use Rattle.theory.specs.Fills.{turns, Moves, Settles}
-use Rattle.theory.specs.Rounds.{Rest}
+use Rattle.theory.specs.Fills.{Settles}
 use Rattle.tables.specs.Call.{Stepped}
 
 -- COST: R numbers, 0..65535, 65536 dear, 65537 none known; none is known outside the rules
@@ -53,15 +52,7 @@ pub record CostBecame (g : Flat) (p : ℕ) (ws to : List ℕ) : Type 0 where
 abbrev pub Long : List ℕ → List ℕ → Type 0
 Long a b = length b ≡ length a
 
--- what a round of COST asks: a well-formed grammar, and a number of at most 65537 for each rule
-pub record CostBegun (g : Flat) (cost : List ℕ) : Type 0 where
-  pub well : WellFormed g
-  pub long : length cost ≡ g .rules
-  pub cap : (r : ℕ) → costsOf cost r ≤ costUnknown
-
-abbrev pub CostRounds : Flat → Bool → List ℕ → Bool → List ℕ → Type 0
-CostRounds g down = Moves (costVisit (denoted g) (price g)) costsOf Long (turns down (length (g .owners)) (length (g .owners)))
-
+-- rounds were made until none would change anything
 abbrev pub CostSettled : Flat → List ℕ → List ℕ → Type 0
 CostSettled g = Settles (costVisit (denoted g) (price g)) costsOf Long (length (g .owners))
 
@@ -113,10 +104,3 @@ pub record Lowers (g : Flat) (p : ℕ) (cost : List ℕ) (read : List Bool) (cha
   pub told : late ≡ true → changed ≡ true
   pub kept : late ≡ false → Agrees read′ (costsOf to) (costsOf cost)
   pub calm : late ≡ false → Calm g p read′ (costsOf to)
-
--- a round, and `late`: it changed an entry that it had read before; if not, no visit would change anything
-pub record LateRounds (g : Flat) (down : Bool) (before : List ℕ) (late : Bool) (after : List ℕ) : Type 0 where
-  pub changed : Bool
-  pub moves : CostRounds g down before changed after
-  pub told : late ≡ true → changed ≡ true
-  pub rests : late ≡ false → Rest (costVisit (denoted g) (price g)) (length (g .owners)) (costsOf after)

@@ -1,14 +1,13 @@
 -- FIRST and EMPTY as lent words, the marks that they hold, and one production's step on them.
 use mathlib.Core.List.{List, [], _∷_}
 use mathlib.Core.Path.{_≡_}
-use Prim.Native.Nat.{ℕ, _*_, _≤_, _<_, _-_, _+_}
+use Prim.Native.Nat.{ℕ, _*_, _≤_, _<_, _+_}
 use Rattle.theory.specs.Visits.{Marks, firstOf, nullable, firstVisit}
 use Rattle.rows.specs.Marks.{mark, Raised}
 use Rattle.rows.specs.Tables.{Sized, view, Became, RowBecame}
 use Rattle.tables.specs.Sizes.{words}
 use mathlib.Core.Bool.{Bool, false, true}
 use lib.ListN.{length}
-use Rattle.theory.specs.Fills.{turns, Moves, Settles}
 use Rattle.grammar.specs.Flat.{Flat, at, form, denoted}
 use Rattle.grammar.specs.Well.{WellFormed, SymbolFits}
 use Rattle.theory.specs.Grammar.{tok, rul, Form}
@@ -61,20 +60,6 @@ pub record FirstBecame (g : Flat) (p : ℕ) (l to : Lent) : Type 0 where
   pub first : Became (g .rules) (length (g .costs)) (words (length (g .costs))) (l .first) (to .first) (firstVisit (denoted g) p (marksOf (g .rules) (length (g .costs)) l) .first)
   pub empty : RowBecame (g .rules) (words (g .rules)) (l .empty) (to .empty) (firstVisit (denoted g) p (marksOf (g .rules) (length (g .costs)) l) .empty)
 
--- what a round asks: a well-formed grammar, tables of their lengths, and that no rule has a mark for eof
-pub record Begun (g : Flat) (l : Lent) : Type 0 where
-  pub well : WellFormed g
-  pub held : Held (g .rules) (length (g .costs)) l
-  pub no-eof : (r : ℕ) → marksOf (g .rules) (length (g .costs)) l .first r (length (g .costs) - 1) ≡ false
-
--- a round up or down was made
-abbrev pub Rounds : Flat → Bool → Lent → Bool → Lent → Type 0
-Rounds g down = Moves (firstVisit (denoted g)) (marksOf (g .rules) (length (g .costs))) (Spared (g .rules) (length (g .costs))) (turns down (length (g .owners)) (length (g .owners)))
-
--- rounds were made until none would change anything
-abbrev pub Settled : Flat → Lent → Lent → Type 0
-Settled g = Settles (firstVisit (denoted g)) (marksOf (g .rules) (length (g .costs))) (Spared (g .rules) (length (g .costs))) (length (g .owners))
-
 -- the form is empty or begins with a token
 abbrev pub plain : Form → Bool
 plain [] = true
@@ -86,21 +71,3 @@ pub record Stretches (starts symbols : List ℕ) (p : ℕ) : Type 0 where
   pub starts-in : p + 1 < length starts
   pub rise : at starts p ≤ at starts (p + 1)
   pub fits : at starts (p + 1) ≤ length symbols
-
--- a visit of production p would change nothing
-abbrev pub Quiet : Flat → Lent → ℕ → Type 0
-Quiet g l p = firstVisit (denoted g) p (marksOf (g .rules) (length (g .costs)) l) ≡ marksOf (g .rules) (length (g .costs)) l
-
--- what a production's turn asks: after a round, a plain one is quiet
-pub record TurnReady (g : Flat) (p : ℕ) (again : Bool) (l : Lent) : Type 0 where
-  pub ready : Ready g p l
-  pub quiet : again ≡ true → plain (denoted g .body p) ≡ true → Quiet g l p
-
--- every plain production is quiet
-abbrev pub AllQuiet : Flat → Lent → Type 0
-AllQuiet g l = (p : ℕ) → p < length (g .owners) → plain (denoted g .body p) ≡ true → Quiet g l p
-
--- what a round asks that may pass over what is quiet
-pub record RoundReady (g : Flat) (again : Bool) (l : Lent) : Type 0 where
-  pub begun : Begun g l
-  pub quiet : again ≡ true → AllQuiet g l

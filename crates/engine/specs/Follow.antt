@@ -9,10 +9,10 @@ use Rattle.tables.specs.Sizes.{words}
 use Rattle.engine.specs.First.{Lent as Firsts, Held, marksOf, Walkable as Forth, Ready as FirstReady}
 use mathlib.Core.Bool.{Bool, true, false, cond, _&&_, _||_}
 use lib.ListN.{length, replicate}
-use Rattle.theory.specs.Fills.{turns, Moves, Settles}
+use Rattle.theory.specs.Fills.{Settles}
 use Rattle.theory.specs.Grammar.{rul, Form, tok}
 use Rattle.grammar.specs.Flat.{Flat, symbol, denoted, at}
-use Rattle.grammar.specs.Well.{WellFormed, SymbolFits}
+use Rattle.grammar.specs.Well.{SymbolFits}
 use lib.Dec.{eqb}
 
 -- what the visits of FOLLOW read: FIRST and EMPTY, and the reached row
@@ -127,19 +127,6 @@ FollowBecame g read p follow to =
     Became (g .rules) (length (g .costs)) (words (length (g .costs))) follow to
     (visitOf g read p (tableOf (g .rules) (length (g .costs)) follow))
 
--- what a round asks: a well-formed grammar, tables of their lengths
-pub record Begun (g : Flat) (read : Reads) (follow : List ℕ) : Type 0 where
-  pub well : WellFormed g
-  pub held : Held (g .rules) (length (g .costs)) (read .firsts)
-  pub reached : length (read .reached) ≡ words (g .rules)
-  pub follows : Sized (g .rules) (words (length (g .costs))) follow
-
--- a round up or down was made
-abbrev pub Rounds : Flat → Reads → Bool → List ℕ → Bool → List ℕ → Type 0
-Rounds g read down =
-    Moves (visitOf g read) (tableOf (g .rules) (length (g .costs))) (Spared (g .rules) (length (g .costs)))
-    (turns down (length (g .owners)) (length (g .owners)))
-
 -- rounds were made until none would change anything
 abbrev pub Settled : Flat → Reads → List ℕ → List ℕ → Type 0
 Settled g read =
@@ -180,11 +167,7 @@ pub record StepReady (g : Flat) (p : ℕ) (fed : Bool) (read : Reads) (follow : 
   pub ready : Ready g p read follow
   pub feeds : fed ≡ true → ProdFed g read follow p
 
--- every production of a reached rule is fed
-abbrev pub AllFed : Flat → Reads → List ℕ → Type 0
-AllFed g read follow = (p : ℕ) → p < length (g .owners) → ProdFed g read follow p
-
--- what a round asks that may go by what is fed
-pub record RoundReady (g : Flat) (fed : Bool) (read : Reads) (follow : List ℕ) : Type 0 where
-  pub begun : Begun g read follow
-  pub feeds : fed ≡ true → AllFed g read follow
+-- what FOLLOW's visits read is of its exact lengths
+pub record ReadHeld (g : Flat) (read : Reads) : Type 0 where
+  pub firsts : Held (g .rules) (length (g .costs)) (read .firsts)
+  pub reached : length (read .reached) ≡ words (g .rules)

@@ -9,7 +9,7 @@ use Rattle.grammar.specs.Flat.{at, symbol, Flat, denoted}
 use Rattle.rows.specs.Tables.{rowView, Sized, RowBecame}
 use Rattle.tables.specs.Sizes.{words}
 use Rattle.grammar.specs.Well.{WellFormed, SymbolFits}
-use Rattle.theory.specs.Fills.{turns, Moves, Settles}
+use Rattle.theory.specs.Fills.{Settles}
 use Rattle.rows.specs.Marks.{mark}
 
 -- PRODUCTIVE: one row of (R+31)/32 words, by rule
@@ -48,15 +48,6 @@ ProductiveBecame g p ws to = RowBecame (g .rules) (words (g .rules)) ws to (prod
 pub record RowSpared (R : ℕ) (a b : List ℕ) : Type 0 where
   pub held : Sized 1 (words R) a → Sized 1 (words R) b
   pub spare : (r : ℕ) → R ≤ r → r < words R * 32 → mark (words R) b 0 r ≡ mark (words R) a 0 r
-
--- what a round of PRODUCTIVE asks: a well-formed grammar, and a row of its length
-pub record RowBegun (g : Flat) (row : List ℕ) : Type 0 where
-  pub well : WellFormed g
-  pub held : Sized 1 (words (g .rules)) row
-
--- a round up or down was made
-abbrev pub RowRounds : Flat → Bool → List ℕ → Bool → List ℕ → Type 0
-RowRounds g down = Moves (productiveVisit (denoted g)) (rowOf (g .rules)) (RowSpared (g .rules)) (turns down (length (g .owners)) (length (g .owners)))
 
 -- rounds were made until none would change anything
 abbrev pub RowSettled : Flat → List ℕ → List ℕ → Type 0

@@ -1,6 +1,8 @@
 // COST: one production's step.
+use crate::inner::Moved;
 use grammar::inner::prod_at;
 use grammar::inner::wide;
+ghost use mathlib.Core.Bool.{not, _&&_};
 ghost use mathlib.Core.Path.{_≡_};
 ghost use Prim.Native.Nat.{_+_, _<_, min};
 ghost use lib.ListN.{length};
@@ -92,12 +94,6 @@ fn capped(entry: u32) -> u32
     COST_UNKNOWN
 }
 
-// What a step of COST came to: whether it changed its owner's entry, and whether that was read before.
-pub struct Lowered {
-    pub changed: bool,
-    pub late: bool,
-}
-
 // Production p's step of COST: its owner's entry becomes the smaller of itself and the sum, if that is known.
 // The symbols are added up only until the sum comes to the entry; `read` tells the rules that were read so far.
 pub fn step(
@@ -109,29 +105,29 @@ pub fn step(
     p: usize,
     read: &mut [bool; 512],
     cost: &mut [u32],
-) -> Lowered
+) -> Moved
     requires { ⌜ Lowerable (flat rules (now owners) (now starts) (now symbols) (now costs)) p (now cost) (now read) ⌝ }
-    ensures { λ r. ⌜ Lowers (flat rules (now (owners .entry)) (now (starts .entry)) (now (symbols .entry)) (now (costs .entry))) p (now (cost .entry)) (now (read .entry)) (r .changed) (r .late) (now (cost .exit)) (now (read .exit)) ⌝ }
+    ensures { λ r. ⌜ Lowers (flat rules (now (owners .entry)) (now (starts .entry)) (now (symbols .entry)) (now (costs .entry))) p (now (cost .entry)) (now (read .entry)) (r .changed) (r .changed && not (r .early)) (now (cost .exit)) (now (read .exit)) ⌝ }
 {
     let q = prod_at(owners, starts, p);
     let owner = q.owner;
     let top = capped(entry_at(cost, owner));
     if top == 0 {
-        return Lowered {
+        return Moved {
             changed: false,
-            late: false,
+            early: false,
         };
     }
     let s = sum_to(symbols, costs, q.from, q.to, cost, top, read);
     if s < top {
         cost[owner] = s;
-        return Lowered {
+        return Moved {
             changed: true,
-            late: read[owner],
+            early: !read[owner],
         };
     }
-    Lowered {
+    Moved {
         changed: false,
-        late: false,
+        early: false,
     }
 }

@@ -7,7 +7,7 @@ ghost use mathlib.Core.Path.{_≡_};
 ghost use Prim.Native.Nat.{_+_};
 ghost use Rattle.grammar.specs.Flat.{flat, at, form};
 ghost use Rattle.tables.specs.Call.{Stepped};
-ghost use Rattle.engine.specs.First.{lent, Walkable, Walks, Ready, FirstBecame, plain, Stretches, TurnReady};
+ghost use Rattle.engine.specs.First.{lent, Walkable, Walks, Ready, FirstBecame, plain, Stretches};
 
 // What a walk found: whether a mark is new, and whether it passed the end.
 pub struct Walked {
@@ -86,7 +86,7 @@ pub fn step(
 
 // Whether production p is empty or begins with a token: its step reads no mark, and once made changes
 // nothing again.
-fn is_plain(starts: &[u16], symbols: &[u16], p: usize) -> bool
+pub fn is_plain(starts: &[u16], symbols: &[u16], p: usize) -> bool
     requires { ⌜ Stretches (now starts) (now symbols) p ⌝ }
     ensures { λ r. ⌜ r ≡ plain (form (now (symbols .entry)) (at (now (starts .entry)) p) (at (now (starts .entry)) (p + 1))) ⌝ }
 {
@@ -96,25 +96,4 @@ fn is_plain(starts: &[u16], symbols: &[u16], p: usize) -> bool
         return true;
     }
     symbols[a] < 32768
-}
-
-// Production p's turn: its step, but that after a round a plain one is passed over.
-pub fn turn(
-    rules: u16,
-    owners: &[u16],
-    starts: &[u16],
-    symbols: &[u16],
-    costs: &[u8],
-    again: bool,
-    p: usize,
-    first: &mut [u32],
-    empty: &mut [u32],
-) -> bool
-    requires { ⌜ TurnReady (flat rules (now owners) (now starts) (now symbols) (now costs)) p again (lent (now first) (now empty)) ⌝ }
-    ensures { λ r. ⌜ Stepped (FirstBecame (flat rules (now (owners .entry)) (now (starts .entry)) (now (symbols .entry)) (now (costs .entry))) p (lent (now (first .entry)) (now (empty .entry)))) (lent (now (first .entry)) (now (empty .entry))) r (lent (now (first .exit)) (now (empty .exit))) ⌝ }
-{
-    if again && is_plain(starts, symbols, p) {
-        return false;
-    }
-    step(rules, owners, starts, symbols, costs, p, first, empty)
 }

@@ -4,7 +4,6 @@ use Prim.Native.Nat.{ℕ, zero, suc, _+_, _-_, _≤_, _<_, min, max}
 use native.Mathlib.Nat.{not-suc-le-zero}
 use native.Mathlib.Omega.{arith}
 use Rattle.theory.specs.DearestVisits.{noBound, addUp}
-use Rattle.theory.proofs.Count.{sum}
 use Rattle.theory.proofs.DearestLevels.{WayToAdd}
 
 -- as numbers

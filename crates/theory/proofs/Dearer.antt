@@ -1,7 +1,7 @@
 -- What a dearer token does, from the definitions alone.
 use mathlib.Core.List.{List, [], _∷_}
 use mathlib.Core.Logic.{inl, inr}
-use mathlib.Core.Path.{_≡_, refl, ap}
+use mathlib.Core.Path.{_≡_, ap}
 use Prim.Native.Nat.{ℕ, _+_, _*_}
 use native.Mathlib.Decide.{decLe}
 use native.Mathlib.Nat.{mul-add}

@@ -1,6 +1,6 @@
 -- The dearest costs: R rounds, then rounds in which any rise goes to no bound, leave each rule's entry.
 use mathlib.Core.Bool.{Bool, true, false, cond}
-use mathlib.Core.List.{List, [], _∷_, _++_, map, cons≢nil, head-eq-of-cons-eq, tail-eq-of-cons-eq, List·Memᴰ, List·Memᴰ·cases-cons, List·Memᴰ·not-nil}
+use mathlib.Core.List.{List, [], _∷_, _++_, map, List·Memᴰ, List·Memᴰ·cases-cons, List·Memᴰ·not-nil}
 use mathlib.Core.Logic.{_⊎_, inl, inr}
 use mathlib.Core.Path.{_≡_, refl, sym, _∙_, ap, subst}
 use Prim.Native.Nat.{ℕ, zero, suc, _+_, _*_, _≤_, _<_, min}
@@ -18,9 +18,8 @@ use Rattle.theory.specs.Tables.{Proper}
 use Rattle.theory.specs.Dearest.{Greatest, Unbounded, Dearest, is, unbounded, none, above}
 use Rattle.theory.specs.DearestVisits.{noBound, addUp, formDearest, lifted, dearestVisit, dearestCleared, endsAs}
 use Rattle.theory.proofs.Bools.{eqb-same}
-use Rattle.theory.proofs.Yields.{Yields, nil, keep, open′, yields-append, derives→yields, map-append, map-parts}
+use Rattle.theory.proofs.Yields.{Yields, nil, keep, yields-append, derives→yields, map-append, Spells, snil, stok, srul, spelled}
 use Rattle.theory.proofs.Rounds.{run-keeps, rounds-keeps}
-use Rattle.theory.proofs.Count.{sum}
 use Rattle.theory.proofs.Cost.{cost-append}
 use Rattle.theory.proofs.Pumping.{Around, GainingLoop, loop-unbounded, loop-on, loop-productive, around-front, around-here, around-prod}
 use Rattle.theory.proofs.DearestLevels.{levelDearest, form-mono, level-prod, level-via, level-upto, level-sentence, level-loop, highest}
@@ -57,21 +56,16 @@ entry-allows s x c l h = record {
 }
 
 module _ (g : Grammar) (k : ℕ → ℕ) (c : Costs) (st : Covered g k c) where
-  form-allows : {α β : Form} → Yields g α β → (w : List ℕ) → β ≡ map tok w → Allows (formDearest addUp k c α) (costOf k w)
-  form-allows nil [] e = record { known = omega arith; exact = λ l. omega arith; bound = λ l. omega arith }
-  form-allows nil (t ∷ w) e = absurd (cons≢nil (sym e))
-  form-allows (keep x y) [] e = absurd (cons≢nil e)
-  form-allows (keep {α = α} x y) (t ∷ w) e =
-      subst (λ z. Allows (formDearest addUp k c (z ∷ α)) (k t + costOf k w)) (sym (head-eq-of-cons-eq e)) (addup-allows _ _ _ _ (token-allows (k t)) (form-allows y w (tail-eq-of-cons-eq e)))
-  form-allows (open′ {r = r} {α = α} {β = β} {γ = γ} p lt o b y d) w e =
-      let s = map-parts γ β w (sym e ∙ d) in
-      let one = entry-allows _ _ _ (st p lt) (form-allows b (s .0) (s .3)) in
-      subst (λ z. Allows (formDearest addUp k c (rul r ∷ α)) z) (sym (ap (costOf k) (s .2) ∙ cost-append k (s .0) (s .1)))
-      (addup-allows (c r) (formDearest addUp k c α) _ _ (subst (λ z. Allows (c z) (costOf k (s .0))) o one) (form-allows y (s .1) (s .4)))
+  form-allows : {α : Form} {w : List ℕ} → Spells g α w → Allows (formDearest addUp k c α) (costOf k w)
+  form-allows snil = record { known = omega arith; exact = λ l. omega arith; bound = λ l. omega arith }
+  form-allows (stok t x) = addup-allows _ _ _ _ (token-allows (k t)) (form-allows x)
+  form-allows (srul {r = r} {α = α} {u = u} {v = v} p lt o x y e) =
+      subst (λ z. Allows (formDearest addUp k c (rul r ∷ α)) z) (sym (ap (costOf k) e ∙ cost-append k u v))
+      (addup-allows (c r) (formDearest addUp k c α) _ _ (subst (λ z. Allows (c z) (costOf k u)) o (entry-allows _ _ _ (st p lt) (form-allows x))) (form-allows y))
 
   sentence-allows : (r : ℕ) (w : List ℕ) → Sentence g r w → Allows (c r) (costOf k w)
   sentence-allows r w d =
-      let h = form-allows (derives→yields d) w refl in
+      let h = form-allows (spelled w d) in
       record { known = addup-adds .known (c r) 1 (h .known) .0; exact = λ l. omega (arith, h .exact (omega (arith, one (c r))), one (c r)); bound = λ l. omega (arith, h .bound (omega (arith, one (c r))), ap cap (one (c r))) }
     where
       one : (x : ℕ) → addUp x 1 ≡ x
@@ -85,24 +79,19 @@ module _ (g : Grammar) (k : ℕ → ℕ) (ok : Proper g) where
   plus-both (suc v) zero c d a b = absurd (not-suc-le-zero b)
   plus-both (suc v) (suc u) c d a b = omega arith
 
-  counted : {α β : Form} → Yields g α β → (w : List ℕ) → β ≡ map tok w → (n : ℕ) × (costOf k w < formDearest plus k (levelDearest plus g k n) α)
-  counted nil [] e = (0, omega arith)
-  counted nil (t ∷ w) e = absurd (cons≢nil (sym e))
-  counted (keep x y) [] e = absurd (cons≢nil e)
-  counted (keep {α = α} x y) (t ∷ w) e =
-      let i = counted y w (tail-eq-of-cons-eq e) in
-      (i .0, subst (λ z. k t + costOf k w < formDearest plus k (levelDearest plus g k (i .0)) (z ∷ α)) (sym (head-eq-of-cons-eq e)) (plus-both (suc (k t)) _ (k t) _ (omega arith) (i .1)))
-  counted (open′ {r = r} {α = α} {β = β} {γ = γ} p lt o b y d) w e =
-      let s = map-parts γ β w (sym e ∙ d) in
-      let i = counted b (s .0) (s .3) in
-      let j = counted y (s .1) (s .4) in
+  counted : {α : Form} {w : List ℕ} → Spells g α w → (n : ℕ) × (costOf k w < formDearest plus k (levelDearest plus g k n) α)
+  counted snil = (0, omega arith)
+  counted (stok t x) = let i = counted x in (i .0, plus-both (suc (k t)) _ (k t) _ (omega arith) (i .1))
+  counted (srul {r = r} {α = α} {u = u} {v = v} p lt o x y e) =
+      let i = counted x in
+      let j = counted y in
       let n = suc (i .0) + j .0 in
-      let one : costOf k (s .0) < levelDearest plus g k n r = omega (arith, i .1, level-prod plus-adds g k (i .0) p lt, ap (levelDearest plus g k (suc (i .0))) o, level-upto plus-adds g k (suc (i .0)) n r (omega arith)) in
-      let two : costOf k (s .1) < formDearest plus k (levelDearest plus g k n) α = omega (arith, j .1, form-mono plus-adds k (levelDearest plus g k (j .0)) (levelDearest plus g k n) (λ q. level-upto plus-adds g k (j .0) n q (omega arith)) α) in
-      (n, omega (arith, ap (costOf k) (s .2), cost-append k (s .0) (s .1), plus-both (levelDearest plus g k n r) (formDearest plus k (levelDearest plus g k n) α) _ _ one two))
+      let one : costOf k u < levelDearest plus g k n r = omega (arith, i .1, level-prod plus-adds g k (i .0) p lt, ap (levelDearest plus g k (suc (i .0))) o, level-upto plus-adds g k (suc (i .0)) n r (omega arith)) in
+      let two : costOf k v < formDearest plus k (levelDearest plus g k n) α = omega (arith, j .1, form-mono plus-adds k (levelDearest plus g k (j .0)) (levelDearest plus g k n) (λ q. level-upto plus-adds g k (j .0) n q (omega arith)) α) in
+      (n, omega (arith, ap (costOf k) e, cost-append k u v, plus-both (levelDearest plus g k n r) (formDearest plus k (levelDearest plus g k n) α) _ _ one two))
 
   sentence-level : (r : ℕ) (w : List ℕ) → Sentence g r w → (n : ℕ) × (costOf k w < levelDearest plus g k n r)
-  sentence-level r w d = let i = counted (derives→yields d) w refl in (i .0, omega (arith, i .1, one (levelDearest plus g k (i .0) r)))
+  sentence-level r w d = let i = counted (spelled w d) in (i .0, omega (arith, i .1, one (levelDearest plus g k (i .0) r)))
     where
       one : (x : ℕ) → plus x 1 ≡ x
       one zero = refl

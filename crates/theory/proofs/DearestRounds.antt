@@ -13,7 +13,7 @@ use Rattle.theory.specs.Grammar.{Grammar}
 use Rattle.theory.specs.Visits.{Costs}
 use Rattle.theory.specs.Rounds.{run, AllRounds, rounds}
 use Rattle.theory.specs.Tables.{Proper}
-use Rattle.theory.specs.Dearest.{Dearest, is, none}
+use Rattle.theory.specs.Dearest.{Dearest}
 use Rattle.theory.specs.DearestVisits.{noBound, addUp, formDearest, dearestVisit, dearestCleared, endsAs}
 use Rattle.theory.proofs.Rounds.{rounds-keeps, joined, joined-valid, rounds-run, Climb, climb-ascent, rounds-done}
 use Rattle.theory.proofs.Count.{sum, sum-le, sum-same, sum-grows, bit, bit-le, bit-grows}

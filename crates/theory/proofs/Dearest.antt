@@ -17,7 +17,7 @@ use Rattle.theory.specs.Rounds.{run, Valid, Round, AllRounds, rounds, Re
 use Rattle.theory.specs.Tables.{Proper}
 use Rattle.theory.specs.Dearest.{Greatest, Unbounded, Dearest, is, unbounded, none, above}
 use Rattle.theory.specs.DearestVisits.{noBound, addUp, formDearest, lifted, dearestVisit, dearestCleared, endsAs}
-use Rattle.theory.proofs.Bools.{eqb-same}
+use Rattle.theory.proofs.Bools.{tested, eqb-same}
 use Rattle.theory.proofs.Yields.{Yields, nil, keep, yields-append, derives→yields, map-append, Spells, snil, stok, srul, spelled}
 use Rattle.theory.proofs.Rounds.{run-keeps, rounds-keeps}
 use Rattle.theory.proofs.Cost.{cost-append}
@@ -126,33 +126,27 @@ highest-le (suc n) M f h = omega (arith, h n (omega arith), highest-le n M f (λ
 
 -- what a visit leaves
 lifted-cases : (beyond : Bool) (n s : ℕ) → ((n < s) × (lifted beyond n s ≡ cond beyond noBound s)) ⊎ ((s ≤ n) × (lifted beyond n s ≡ n))
-lifted-cases beyond n s = go (ltb n s) refl
-  where
-    go : (b : Bool) → ltb n s ≡ b → ((n < s) × (cond b (cond beyond noBound s) n ≡ cond beyond noBound s)) ⊎ ((s ≤ n) × (cond b (cond beyond noBound s) n ≡ n))
-    go true e = inl (ltb-true n s e, refl)
-    go false e = inr (ltb-false n s e, refl)
+lifted-cases beyond n s = elim (tested (ltb n s)) [ inl e ↦ inl (ltb-true n s e, rw e) | inr e ↦ inr (ltb-false n s e, rw e) ]
 
 module _ (g : Grammar) (k : ℕ → ℕ) (beyond : Bool) (p : ℕ) (c : Costs) where
   abbrev sumOf : ℕ
   sumOf = min (formDearest addUp k c (g .body p)) noBound
 
   pub dearest-cases : (r : ℕ) → ((r ≡ g .owner p) × (c r < sumOf) × (dearestVisit g k beyond p c r ≡ cond beyond noBound sumOf)) ⊎ (dearestVisit g k beyond p c r ≡ c r)
-  dearest-cases r = go (eqb r (g .owner p)) refl
-    where
-      go : (b : Bool) → eqb r (g .owner p) ≡ b → ((r ≡ g .owner p) × (c r < sumOf) × (cond b (lifted beyond (c r) sumOf) (c r) ≡ cond beyond noBound sumOf)) ⊎ (cond b (lifted beyond (c r) sumOf) (c r) ≡ c r)
-      go true e = elim (lifted-cases beyond (c r) sumOf) [ inl h ↦ inl (eqb-true r _ e, h .0, h .1) | inr h ↦ inr (h .1) ]
-      go false e = inr refl
+  dearest-cases r = elim (tested (eqb r (g .owner p))) [
+    | inl e ↦ elim (lifted-cases beyond (c r) sumOf) [ inl h ↦ inl (eqb-true r _ e, h .0, rw e (h .1)) | inr h ↦ inr (rw e (h .1)) ]
+    | inr e ↦ inr (rw e)
+  ]
 
-  at-least : (b : Bool) → beyond ≡ b → sumOf ≤ cond b noBound sumOf
-  at-least true e = omega arith
-  at-least false e = omega arith
+  at-least : sumOf ≤ cond beyond noBound sumOf
+  at-least = elim (tested beyond) [ inl e ↦ rw e (omega arith) | inr e ↦ rw e (omega arith) ]
 
   pub dearest-up : (r : ℕ) → c r ≤ dearestVisit g k beyond p c r
-  dearest-up r = elim (dearest-cases r) [ inl e ↦ omega (arith, e .1, e .2, at-least beyond refl) | inr e ↦ omega (arith, e) ]
+  dearest-up r = elim (dearest-cases r) [ inl e ↦ omega (arith, e .1, e .2, at-least) | inr e ↦ omega (arith, e) ]
 
   pub dearest-owner : sumOf ≤ dearestVisit g k beyond p c (g .owner p)
   dearest-owner = subst (λ z. sumOf ≤ cond z (lifted beyond (c (g .owner p)) sumOf) (c (g .owner p))) (sym (eqb-same (g .owner p)))
-      (elim (lifted-cases beyond (c (g .owner p)) sumOf) [ inl h ↦ omega (arith, h .1, at-least beyond refl) | inr h ↦ omega (arith, h .0, h .1) ])
+      (elim (lifted-cases beyond (c (g .owner p)) sumOf) [ inl h ↦ omega (arith, h .1, at-least) | inr h ↦ omega (arith, h .0, h .1) ])
 
 -- a table that no visit changes
 pub rest-covered : (g : Grammar) (k : ℕ → ℕ) (beyond : Bool) (c : Costs) → Rest (dearestVisit g k beyond) (g .prods) c → Covered g k c
@@ -183,11 +177,10 @@ module _ (g : Grammar) (k : ℕ → ℕ) (ok : Proper g) (lim : Limits g k) wher
   level-small zero r = omega arith
   level-small (suc n) r =
       let ih : (q : ℕ) → levelDearest addUp g k n q ≤ 65535 + n * 16384 = λ q. level-small n q in
-      highest-le (g .prods) _ _ (λ p lt. go p (omega (arith, form-small (levelDearest addUp g k n) (65535 + n * 16384) (omega arith) ih (g .body p), lim .long p lt)) (eqb r (g .owner p)))
-    where
-      go : (p : ℕ) → formDearest addUp k (levelDearest addUp g k n) (g .body p) ≤ 65535 + suc n * 16384 → (b : Bool) → cond b (formDearest addUp k (levelDearest addUp g k n) (g .body p)) 0 ≤ 65535 + suc n * 16384
-      go p h true = h
-      go p h false = omega arith
+      highest-le (g .prods) _ _ (λ p lt. elim (tested (eqb r (g .owner p))) [
+        | inl e ↦ rw e (omega (arith, form-small (levelDearest addUp g k n) (65535 + n * 16384) (omega arith) ih (g .body p), lim .long p lt))
+        | inr e ↦ rw e (omega arith)
+      ])
 
   level-below : (n r : ℕ) → n ≤ 512 → levelDearest addUp g k n r < noBound
   level-below n r l = omega (arith, level-small n r)

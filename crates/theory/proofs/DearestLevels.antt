@@ -16,7 +16,7 @@ use Rattle.theory.specs.Definitions.{Sentence, costOf}
 use Rattle.theory.specs.Visits.{Row, Costs}
 use Rattle.theory.specs.Tables.{Proper}
 use Rattle.theory.specs.DearestVisits.{formDearest}
-use Rattle.theory.proofs.Bools.{or-split, or-left, or-right, eqb-same}
+use Rattle.theory.proofs.Bools.{or-split, or-left, or-right, tested, passes, eqb-same}
 use Rattle.theory.proofs.Count.{count-up, count-upto}
 use Rattle.theory.proofs.Yields.{Yields, nil, keep, yields-append, derives→yields, by-prod, map-append}
 use Rattle.theory.proofs.Cost.{cost-append}
@@ -74,19 +74,10 @@ module _ {op : ℕ → ℕ → ℕ} (a : WayToAdd op) where
     pub level-via : (n r : ℕ) → 0 < levelDearest op g k (suc n) r → (p : ℕ) × (p < g .prods) × (g .owner p ≡ r) × (formDearest op k (levelDearest op g k n) (g .body p) ≡ levelDearest op g k (suc n) r)
     level-via n r lt =
         let h = highest-is (g .prods) (λ p. cond (eqb r (g .owner p)) (formDearest op k (levelDearest op g k n) (g .body p)) 0) lt in
-        go (h .0) (h .1) (eqb r (g .owner (h .0))) refl (h .2)
-      where
-        go : (p : ℕ) → p < g .prods → (b : Bool) → eqb r (g .owner p) ≡ b → cond b (formDearest op k (levelDearest op g k n) (g .body p)) 0 ≡ levelDearest op g k (suc n) r
-            → (p : ℕ) × (p < g .prods) × (g .owner p ≡ r) × (formDearest op k (levelDearest op g k n) (g .body p) ≡ levelDearest op g k (suc n) r)
-        go p l true e h = (p, l, sym (eqb-true r _ e), h)
-        go p l false e h = absurd (omega (arith, h))
+        elim (tested (eqb r (g .owner (h .0)))) [ inl e ↦ (h .0, h .1, sym (eqb-true r _ e), rw e at (h .2)) | inr e ↦ absurd (omega (arith, rw e at (h .2))) ]
 
     next : (c d : Costs) → ((r : ℕ) → c r ≤ d r) → (r p : ℕ) → cond (eqb r (g .owner p)) (formDearest op k c (g .body p)) 0 ≤ cond (eqb r (g .owner p)) (formDearest op k d (g .body p)) 0
-    next c d h r p = go (eqb r (g .owner p))
-      where
-        go : (b : Bool) → cond b (formDearest op k c (g .body p)) 0 ≤ cond b (formDearest op k d (g .body p)) 0
-        go true = form-mono k c d h (g .body p)
-        go false = omega arith
+    next c d h r p = elim (tested (eqb r (g .owner p))) [ inl e ↦ rw e (form-mono k c d h (g .body p)) | inr e ↦ rw e (omega arith) ]
 
     pub level-rises : (n r : ℕ) → levelDearest op g k n r ≤ levelDearest op g k (suc n) r
     level-rises zero r = omega arith
@@ -203,11 +194,7 @@ module _ {op : ℕ → ℕ → ℕ} (a : WayToAdd op) where
     }
 
     full : (R r : ℕ) (S : Row) → R ≤ count R S → r < R → S r ≡ true
-    full R r S le lt = go (S r) refl
-      where
-        go : (b : Bool) → S r ≡ b → S r ≡ true
-        go true e = e
-        go false e = absurd (omega (arith, count-up R S (λ q. true) r lt e refl (λ q _. refl), count-upto R (λ q. true)))
+    full R r S le lt = passes (S r) (λ e. omega (arith, count-up R S (λ q. true) r lt e refl (λ q _. refl), count-upto R (λ q. true)))
 
     module _ (ok : Proper g) where
       inside : (n r : ℕ) → 0 < levelDearest op g k n r → r < g .rules
@@ -218,28 +205,23 @@ module _ {op : ℕ → ℕ → ℕ} (a : WayToAdd op) where
       descend : (n from r d : ℕ) (S : Row) → levelDearest op g k n r < levelDearest op g k (suc n) r → g .rules ≤ n + count (g .rules) S → Around g k (rul from ∷ []) r d → ((s : ℕ) → S s ≡ true → Met from r n s) → GainingLoop g k from
       descend zero from r d S f le l m = met-loop f (m r (full (g .rules) r S (omega arith) (inside 1 r (omega arith))))
       descend (suc n) from r d S f le l m =
-          let below : (q e : ℕ) (T : Row) → levelDearest op g k n q < levelDearest op g k (suc n) q → g .rules ≤ n + count (g .rules) T → Around g k (rul from ∷ []) q e → ((s : ℕ) → T s ≡ true → Met from q n s) → GainingLoop g k from = λ q e T. descend n from q e T in
-          go (S r) refl below
-        where
-          go : (b : Bool) → S r ≡ b
-              → ((q e : ℕ) (T : Row) → levelDearest op g k n q < levelDearest op g k (suc n) q → g .rules ≤ n + count (g .rules) T → Around g k (rul from ∷ []) q e → ((s : ℕ) → T s ≡ true → Met from q n s) → GainingLoop g k from)
-              → GainingLoop g k from
-          go true e below = met-loop f (m r e)
-          go false e below =
-              let v = level-via (suc n) r (omega arith) in
-              elim (fresh-part n (g .body (v .0)) (omega (arith, v .3))) [
-                | inl h ↦ absurd (omega (arith, v .3, h, level-prod n (v .0) (v .1), ap (levelDearest op g k (suc n)) (v .2)))
-                | inr i ↦
-                    let step = around-prod (v .0) (v .1) (v .2) (i .leads) in
-                    let flat : i .adds ≡ 0 → levelDearest op g k (suc (suc n)) r ≤ levelDearest op g k (suc n) (i .rule) = λ z. omega (arith, v .3, i .flat z) in
-                    below (i .rule) _ (λ q. S q || eqb q r) (i .fresh)
-                    (omega (arith, count-up (g .rules) S (λ q. S q || eqb q r) r (inside (suc (suc n)) r (omega arith)) e (or-right (S r) (eqb-same r)) (λ q h. or-left _ h)))
-                    (around-on l step)
-                    (λ s h. elim (or-split (S s) _ h) [
-                      | inl h ↦ met-on step flat (m s h)
-                      | inr h ↦ subst (λ z. Met from (i .rule) n z) (sym (eqb-true s r h)) (record { was = levelDearest op g k (suc (suc n)) r; into = d; since = i .adds; first = l; then = step; flat = flat; fell = f })
-                    ])
-              ]
+          let v = level-via (suc n) r (omega arith) in
+          elim (tested (S r)) [
+            | inl e ↦ met-loop f (m r e)
+            | inr e ↦ elim (fresh-part n (g .body (v .0)) (omega (arith, v .3))) [
+              | inl h ↦ absurd (omega (arith, v .3, h, level-prod n (v .0) (v .1), ap (levelDearest op g k (suc n)) (v .2)))
+              | inr i ↦
+                  let step = around-prod (v .0) (v .1) (v .2) (i .leads) in
+                  let flat : i .adds ≡ 0 → levelDearest op g k (suc (suc n)) r ≤ levelDearest op g k (suc n) (i .rule) = λ z. omega (arith, v .3, i .flat z) in
+                  descend n from (i .rule) _ (λ q. S q || eqb q r) (i .fresh)
+                  (omega (arith, count-up (g .rules) S (λ q. S q || eqb q r) r (inside (suc (suc n)) r (omega arith)) e (or-right (S r) (eqb-same r)) (λ q h. or-left _ h)))
+                  (around-on l step)
+                  (λ s h. elim (or-split (S s) _ h) [
+                    | inl h ↦ met-on step flat (m s h)
+                    | inr h ↦ subst (λ z. Met from (i .rule) n z) (sym (eqb-true s r h)) (record { was = levelDearest op g k (suc (suc n)) r; into = d; since = i .adds; first = l; then = step; flat = flat; fell = f })
+                  ])
+            ]
+          ]
 
       -- a rule that comes to more at some level than at level R
       pub level-loop : (m r : ℕ) → levelDearest op g k (g .rules) r < levelDearest op g k m r → GainingLoop g k r

@@ -8,7 +8,7 @@ use native.Mathlib.Decide.{decLt}
 use native.Mathlib.Omega.{arith}
 use lib.Dec.{leb}
 use lib.ListN.{length}
-use borrow.Author.Tests.{leb-true, leb-false, le-leb}
+use borrow.Author.Tests.{leb-true, le-leb, lt-leb}
 use Rattle.theory.specs.Grammar.{Grammar}
 use Rattle.theory.specs.Visits.{Costs}
 use Rattle.theory.specs.Rounds.{run, AllRounds, rounds}
@@ -68,12 +68,7 @@ module _ (g : Grammar) (k : ℕ → ℕ) (ok : Proper g) where
 
   -- beyond R rounds each change takes an entry to `noBound`: so R more are enough
   bound-bits : (x y : ℕ) → x < noBound → noBound ≤ y → bit (leb noBound x) < bit (leb noBound y)
-  bound-bits x y l m = go (leb noBound x) refl (leb noBound y) refl
-    where
-      go : (a : Bool) → leb noBound x ≡ a → (b : Bool) → leb noBound y ≡ b → bit a < bit b
-      go true e b f = absurd (omega (arith, leb-true noBound x e))
-      go false e true f = omega arith
-      go false e false f = absurd (omega (arith, leb-false noBound y f))
+  bound-bits x y l m = rw (lt-leb noBound x l, le-leb noBound y m) (omega arith)
 
   pub beyond-grows : (p : ℕ) → p < g .prods → (c : Costs) → Risen (g .rules) c → (dearestVisit g k true p c ≡ c) ⊎ (boundless g c < boundless g (dearestVisit g k true p c))
   beyond-grows p lt c i = elim (sum-grows (g .rules) _ _ (λ r. dearestVisit g k true p c r ≡ c r) (λ r q. ap (λ z. bit (leb noBound z)) (sym q)) (λ r _. topped r)) [

@@ -8,12 +8,13 @@ use native.Mathlib.Decide.{decLe}
 use native.Mathlib.Nat.{mul-le-mul-right}
 use native.Mathlib.Omega.{arith}
 use lib.Dec.{eqb}
-use lib.ListN.{length}
+use lib.ListN.{length, length-append}
 use borrow.Author.Tests.{eqb-true, eqb-false}
 use Rattle.theory.specs.Fills.{Moves, Settles, turns}
+use Rattle.theory.proofs.Bools.{tested}
 use Rattle.theory.specs.Rounds.{run, Valid, Round, AllRounds, rounds, Rest, AnyOrder}
-use Rattle.theory.proofs.Fills.{Filling, valid-append, valid-one, moves-none, round-more, turns-round}
-use Rattle.theory.proofs.Rounds.{run-append, rounds-keeps, joined, joined-valid, rounds-run, run-grows}
+use Rattle.theory.proofs.Fills.{Filling, valid-append, turns-valid, moves-none, round-more, turns-round}
+use Rattle.theory.proofs.Rounds.{run-append, run-still, rounds-keeps, joined, joined-valid, rounds-run, run-grows}
 use Rattle.theory.specs.Slices.{Progress, fresh, ended, after, Slice, full, over, visit, up, rising, Slices, none, more}
 
 -- rounds and one more
@@ -24,18 +25,6 @@ rounds-snoc step (u ∷ vs) v s = rounds-snoc step vs v (run step u s)
 all-snoc : {P : ℕ} (vs : List (List ℕ)) (v : List ℕ) → AllRounds P vs → Round P v → AllRounds P (vs ++ (v ∷ []))
 all-snoc [] v h r = (r, tt)
 all-snoc (u ∷ vs) v h r = (h .0, all-snoc vs v (h .1) r)
-
-long-snoc : (vs : List (List ℕ)) (v : List ℕ) → length (vs ++ (v ∷ [])) ≡ length vs + 1
-long-snoc [] v = refl
-long-snoc (u ∷ vs) v = omega (arith, long-snoc vs v)
-
-run-still : {S : Type 0} (step : ℕ → S → S) (s : S) (v : List ℕ) → ((p : ℕ) → List·Memᴰ p v → step p s ≡ s) → run step v s ≡ s
-run-still step s [] h = refl
-run-still step s (p ∷ v) h = rw (h p (List·Memᴰ·head refl)) (run-still step s v (λ q k. h q (List·Memᴰ·tail k)))
-
-part-valid : (P n : ℕ) → n ≤ P → Valid P (turns false P n)
-part-valid P zero l p m = absurd (List·Memᴰ·not-nil m)
-part-valid P (suc n) l p m = valid-append {v = turns false P n} (λ q k. part-valid P n (omega arith) q k) (valid-one l) p m
 
 -- a slice makes the visits asked for, fewer only when the job is or becomes done
 pub made-all : {M : Type 0} {Visit : ℕ → M → Bool → M → Type 0} {P n m : ℕ} {j i : Progress} {a d : M} → Slice Visit P n j a m i d → (m ≡ n) ⊎ ((m < n) × (i .done ≡ true))
@@ -87,18 +76,14 @@ pub record Sliceable {M S : Type 0} (step : ℕ → S → S) (view : M → S) (K
 
 -- where the next production is, and where it stays
 next-up : (P : ℕ) (x : Bool) (j : Progress) → after P x j .next ≡ up P (j .next)
-next-up P x j = go (eqb (j .next + 1) P)
-  where
-    go : (b : Bool) → cond b (ended (j .changed || x)) (record { next = j .next + 1; changed = j .changed || x; done = false }) .next ≡ cond b 0 (j .next + 1)
-    go true = refl
-    go false = refl
+next-up P x j = elim (tested (eqb (j .next + 1) P)) [ inl e ↦ rw e | inr e ↦ rw e ]
+
+-- a visit ends a round, or goes on
+after-cases : (P : ℕ) (x : Bool) (j : Progress) → (after P x j ≡ ended (j .changed || x)) ⊎ ((j .next + 1 ≡ P → ⊥) × (after P x j ≡ record { next = j .next + 1; changed = j .changed || x; done = false }))
+after-cases P x j = elim (tested (eqb (j .next + 1) P)) [ inl e ↦ inl (rw e) | inr e ↦ inr (eqb-false (j .next + 1) P e, rw e) ]
 
 up-below : (P p : ℕ) → p < P → up P p < P
-up-below P p l = go (eqb (p + 1) P) refl
-  where
-    go : (b : Bool) → eqb (p + 1) P ≡ b → cond b 0 (p + 1) < P
-    go true e = omega arith
-    go false e = omega (arith, eqb-false (p + 1) P e)
+up-below P p l = elim (tested (eqb (p + 1) P)) [ inl e ↦ rw e (omega arith) | inr e ↦ rw e (omega (arith, eqb-false (p + 1) P e)) ]
 
 pub after-below : (P : ℕ) (x : Bool) (j : Progress) → j .next < P → after P x j .next < P
 after-below P x j l = rw (next-up P x j) (up-below P (j .next) l)
@@ -127,17 +112,10 @@ module _ {M S : Type 0} {step : ℕ → S → S} {view : M → S} {Keeps : M →
       let calm : (j .changed || x) ≡ false = rw (c, o .0) in
       let ih : after P x j .changed ≡ false → after P x j .done ≡ false → P ≤ after P x j .next + n → (i .done ≡ true) × (d ≡ b) =
       λ y z u. round-done s (after-below P x j l) (rw (o .1) h) (rw (o .1) r) y z u in
-      let w = go (eqb (j .next + 1) P) refl calm s ih in
-      (w .0, w .1 ∙ o .1)
-    where
-      go : (z : Bool) → eqb (j .next + 1) P ≡ z → (j .changed || x) ≡ false
-          → Slice Visit P n (cond z (ended (j .changed || x)) (record { next = j .next + 1; changed = j .changed || x; done = false })) b m i d
-          → (cond z (ended (j .changed || x)) (record { next = j .next + 1; changed = j .changed || x; done = false }) .changed ≡ false
-          → cond z (ended (j .changed || x)) (record { next = j .next + 1; changed = j .changed || x; done = false }) .done ≡ false
-          → P ≤ cond z (ended (j .changed || x)) (record { next = j .next + 1; changed = j .changed || x; done = false }) .next + n → (i .done ≡ true) × (d ≡ b))
-          → (i .done ≡ true) × (d ≡ b)
-      go true g calm t ih = let w = done-still t (ap not calm) in (ap (λ (y : Progress). y .done) (w .1) ∙ ap not calm, w .2)
-      go false g calm t ih = ih calm refl (omega arith)
+      elim (after-cases P x j) [
+        | inl u ↦ let w = done-still s (ap (λ (y : Progress). y .done) u ∙ ap not calm) in (ap (λ (y : Progress). y .done) (w .1 ∙ u) ∙ ap not calm, w .2 ∙ o .1)
+        | inr u ↦ let w = ih (ap (λ (y : Progress). y .changed) (u .1) ∙ calm) (ap (λ (y : Progress). y .done) (u .1)) (omega (arith, ap (λ (y : Progress). y .next) (u .1))) in (w .0, w .1 ∙ o .1)
+      ]
 
   -- from cleared memory
   module _ {bound : ℕ} {cleared : S} {Holds Exact : S → Type 0} (any : AnyOrder step cleared P bound Holds Exact) (start : M) (begins : f .Held start) (shown : view start ≡ cleared) (inv : f .filling .Inv (view start)) where
@@ -182,7 +160,7 @@ module _ {M S : Type 0} {step : ℕ → S → S} {view : M → S} {Keeps : M →
       going = refl;
       whole = u .whole ++ (turns false P P ∷ []);
       rounded = all-snoc (u .whole) (turns false P P) (u .rounded) (turns-round false P);
-      few = omega (arith, under-few u o, long-snoc (u .whole) (turns false P P));
+      few = omega (arith, under-few u o, length-append (u .whole) (turns false P P ∷ []));
       counts = count;
       begin = d;
       ran = o .ran ∙ ap (run step (turns false P P)) (u .ran) ∙ sym (rounds-snoc step (u .whole) (turns false P P) (view start));
@@ -191,7 +169,7 @@ module _ {M S : Type 0} {step : ℕ → S → S} {view : M → S} {Keeps : M →
     }
       where
         count : suc m ≡ length (u .whole ++ (turns false P P ∷ [])) * P + 0
-        count = rw (long-snoc (u .whole) (turns false P P)) (omega (arith, u .counts, e))
+        count = rw (length-append (u .whole) (turns false P P ∷ [])) (omega (arith, u .counts, e))
 
     -- a round without one leaves the job done
     ends : {m : ℕ} {j : Progress} {b d : M} (u : Under m j b) → Moves step view Keeps (turns false P P) (u .begin) false d → Over (ended false) d
@@ -287,7 +265,7 @@ module _ {M S : Type 0} {step : ℕ → S → S} {view : M → S} {Keeps : M →
         | inl u ↦
             let v = joined (u .whole) ++ turns false P (i .next) in
             let q : view d ≡ run step v cleared = u .part .ran ∙ ap (run step (turns false P (i .next))) (u .ran ∙ rounds-run step (u .whole) (view start)) ∙ sym (run-append step (joined (u .whole)) (turns false P (i .next)) (view start)) ∙ ap (run step v) shown in
-            rw q (any .always v (valid-append {v = joined (u .whole)} (joined-valid (u .whole) (u .rounded)) (part-valid P (i .next) (omega (arith, u .below)))))
+            rw q (any .always v (valid-append {v = joined (u .whole)} (joined-valid (u .whole) (u .rounded)) (turns-valid false P (i .next) (omega (arith, u .below)))))
         | inr w ↦
             let k = w .settles in
             let q : view d ≡ run step (k .visits) cleared = k .ran ∙ ap (run step (k .visits)) shown in

@@ -79,8 +79,8 @@ next-up : (P : ℕ) (x : Bool) (j : Progress) → after P x j .next ≡ up P (j 
 next-up P x j = elim (tested (eqb (j .next + 1) P)) [ inl e ↦ rw e | inr e ↦ rw e ]
 
 -- a visit ends a round, or goes on
-after-cases : (P : ℕ) (x : Bool) (j : Progress) → (after P x j ≡ ended (j .changed || x)) ⊎ ((j .next + 1 ≡ P → ⊥) × (after P x j ≡ record { next = j .next + 1; changed = j .changed || x; done = false }))
-after-cases P x j = elim (tested (eqb (j .next + 1) P)) [ inl e ↦ inl (rw e) | inr e ↦ inr (eqb-false (j .next + 1) P e, rw e) ]
+after-cases : (P : ℕ) (x : Bool) (j : Progress) → ((j .next + 1 ≡ P) × (after P x j ≡ ended (j .changed || x))) ⊎ ((j .next + 1 ≡ P → ⊥) × (after P x j ≡ record { next = j .next + 1; changed = j .changed || x; done = false }))
+after-cases P x j = elim (tested (eqb (j .next + 1) P)) [ inl e ↦ inl (eqb-true (j .next + 1) P e, rw e) | inr e ↦ inr (eqb-false (j .next + 1) P e, rw e) ]
 
 up-below : (P p : ℕ) → p < P → up P p < P
 up-below P p l = elim (tested (eqb (p + 1) P)) [ inl e ↦ rw e (omega arith) | inr e ↦ rw e (omega (arith, eqb-false (p + 1) P e)) ]
@@ -113,7 +113,7 @@ module _ {M S : Type 0} {step : ℕ → S → S} {view : M → S} {Keeps : M →
       let ih : after P x j .changed ≡ false → after P x j .done ≡ false → P ≤ after P x j .next + n → (i .done ≡ true) × (d ≡ b) =
       λ y z u. round-done s (after-below P x j l) (rw (o .1) h) (rw (o .1) r) y z u in
       elim (after-cases P x j) [
-        | inl u ↦ let w = done-still s (ap (λ (y : Progress). y .done) u ∙ ap not calm) in (ap (λ (y : Progress). y .done) (w .1 ∙ u) ∙ ap not calm, w .2 ∙ o .1)
+        | inl u ↦ let w = done-still s (ap (λ (y : Progress). y .done) (u .1) ∙ ap not calm) in (ap (λ (y : Progress). y .done) (w .1 ∙ u .1) ∙ ap not calm, w .2 ∙ o .1)
         | inr u ↦ let w = ih (ap (λ (y : Progress). y .changed) (u .1) ∙ calm) (ap (λ (y : Progress). y .done) (u .1)) (omega (arith, ap (λ (y : Progress). y .next) (u .1))) in (w .0, w .1 ∙ o .1)
       ]
 
@@ -189,7 +189,21 @@ module _ {M S : Type 0} {step : ℕ → S → S} {view : M → S} {Keeps : M →
 
     -- one visit
     on : {m : ℕ} {j : Progress} {b d : M} (x : Bool) → Under m j b → Visit (j .next) b x d → Under (suc m) (after P x j) d ⊎ Over (after P x j) d
-    on {m} {j} {b} {d} x u v = go (eqb (j .next + 1) P) refl
+    on {m} {j} {b} {d} x u v = elim (after-cases P x j) [
+      | inl k ↦ rw (k .1) (turn (k .0) (j .changed || x) refl)
+      | inr k ↦ rw (k .1) (inl (record {
+        below = omega (arith, k .0, u .below);
+        going = refl;
+        whole = u .whole;
+        rounded = u .rounded;
+        few = u .few;
+        counts = omega (arith, u .counts);
+        begin = u .begin;
+        ran = u .ran;
+        keeps = u .keeps;
+        part = longer;
+      }))
+    ]
       where
         longer : Moves step view Keeps (turns false P (j .next + 1)) (u .begin) (j .changed || x) d
         longer = round-more (f .filling) false (j .next) (j .next) (u .below) refl (under-inv u) (u .part) (f .moves (j .next) (u .below) b d x (under-held u) v)
@@ -197,23 +211,6 @@ module _ {M S : Type 0} {step : ℕ → S → S} {view : M → S} {Keeps : M →
         turn : (e : j .next + 1 ≡ P) (y : Bool) → (j .changed || x) ≡ y → Under (suc m) (ended y) d ⊎ Over (ended y) d
         turn e true q = inl (again u e (subst (λ z. Moves step view Keeps (turns false P P) (u .begin) z d) q (subst (λ n. Moves step view Keeps (turns false P n) (u .begin) (j .changed || x) d) e longer)))
         turn e false q = inr (ends u (subst (λ z. Moves step view Keeps (turns false P P) (u .begin) z d) q (subst (λ n. Moves step view Keeps (turns false P n) (u .begin) (j .changed || x) d) e longer)))
-
-        go : (z : Bool) → eqb (j .next + 1) P ≡ z
-            → Under (suc m) (cond z (ended (j .changed || x)) (record { next = j .next + 1; changed = j .changed || x; done = false })) d
-            ⊎ Over (cond z (ended (j .changed || x)) (record { next = j .next + 1; changed = j .changed || x; done = false })) d
-        go true e = turn (eqb-true (j .next + 1) P e) (j .changed || x) refl
-        go false e = inl (record {
-          below = omega (arith, eqb-false (j .next + 1) P e, u .below);
-          going = refl;
-          whole = u .whole;
-          rounded = u .rounded;
-          few = u .few;
-          counts = omega (arith, u .counts);
-          begin = u .begin;
-          ran = u .ran;
-          keeps = u .keeps;
-          part = longer;
-        })
 
     slice-on : {n m t : ℕ} {j i : Progress} {a d : M} → Slice Visit P n j a m i d → Under t j a → Under (t + n) i d ⊎ Over i d
     slice-on {t = t} (full {j = j} {a = a}) u = inl (subst (λ z. Under z j a) (let e : t ≡ t + 0 = omega arith in e) u)

@@ -25,9 +25,9 @@ use Rattle.theory.proofs.Counts.{listing-some}
 use Rattle.theory.proofs.Depth.{deep-priced, deep-not-circular, deep-or-circular, deep-enough, listing-same}
 use Rattle.theory.proofs.Odometer.{getD-map, turns-below, turns-zeros, turns-last, carry-start, carry-below, carry-fits, carry-turns, carry-on, fits-length}
 use Rattle.source.specs.Costs as Costs
-use Rattle.source.proofs.Order.{prods-all}
+use Rattle.source.proofs.Order.{loop-keeps, prods-all}
 use Rattle.source.proofs.Sentence.{same-prod}
-use Rattle.source.specs.Order.{rising, owned, rule-to-prods}
+use Rattle.source.specs.Order.{rule-to-prods}
 use Rattle.source.specs.Sentence.{Sums}
 use Rattle.source.specs.Sentences.{Lows, unset, prod, prods, CheapestProds, cur, carry, Loop, break-b, again, Gathers, over, token, rule, Pushes, stop, empty, works, Runs, Returns}
 
@@ -183,14 +183,8 @@ module _ (g : Grammar) (k : ℕ → ℕ) (c : Costs) (r : ℕ) where
       (has .0, omega (arith, has .1), has .2, has .3)
       (e ∙ ap (λ (z : List ℕ). record { sc = some m; idxs = z }) (sym (append-nil (those (test m) j)) ∙ ap (λ (b : Bool). those (test m) j ++ cond b (j ∷ []) []) (sym (test-no m j (λ u v. o u)))))
 
-  low-all : (n j : ℕ) (l : Lows) → Lowest j l → Lowest (n + j) (prods g k c (owned g r (rising n j)) l)
-  low-all zero j l f = subst (λ z. Lowest z l) {x = j} {y = 0 + j} (omega arith) f
-  low-all (suc n) j l f =
-      let ih : (m : Lows) → Lowest (suc j) m → Lowest (suc n + j) (prods g k c (owned g r (rising n (suc j))) m) = λ m h. subst (λ z. Lowest z (prods g k c (owned g r (rising n (suc j))) m)) {x = n + suc j} {y = suc n + j} (omega arith) (low-all n (suc j) m h) in
-      elim (tested (eqb (g .owner j) r)) [ inl e ↦ rw e (ih (prod g k c j l) (low-own j l (eqb-true (g .owner j) r e) f)) | inr e ↦ rw e (ih l (low-other j l (eqb-false (g .owner j) r e) f)) ]
-
   lowest : Lowest (g .prods) (prods g k c (rule-to-prods g r) unset)
-  lowest = subst (λ z. Lowest z (prods g k c (rule-to-prods g r) unset)) {x = g .prods + 0} {y = g .prods} (omega arith) (low-all (g .prods) 0 unset (nothing′ (λ q l. absurd (not-suc-le-zero l)) refl))
+  lowest = loop-keeps g r (prod g k c) (prods g k c) (λ l. refl) (λ p ps l. refl) Lowest low-own low-other unset (nothing′ (λ q l. absurd (not-suc-le-zero l)) refl)
 
 -- what the productions of two lists push
 record Parted (g : Grammar) (Call : ℕ → List (List ℕ) → Type 0) (ps qs : List ℕ) (sts : List (List ℕ)) : Type 0 where

@@ -1,6 +1,6 @@
 -- The dearest costs by depth: what derivations of n levels come to, by any way of adding that counts at most what is there.
 -- A rule that still rises after R levels leads to a loop that adds cost.
-use mathlib.Core.Bool.{Bool, true, false, _||_, cond, false≢true}
+use mathlib.Core.Bool.{true, false, _||_, cond, false≢true}
 use mathlib.Core.List.{List, [], _∷_, _++_, map}
 use mathlib.Core.Logic.{_⊎_, inl, inr}
 use mathlib.Core.Path.{_≡_, refl, sym, ap, subst}

@@ -1,6 +1,6 @@
 -- Slices, for any kind of table: their visits, that a done job has left the defined table, and when a job is done.
-use mathlib.Core.Bool.{Bool, true, false, not, cond, _||_, true≢false}
-use mathlib.Core.List.{List, [], _∷_, _++_, List·Memᴰ, List·Memᴰ·head, List·Memᴰ·tail, List·Memᴰ·not-nil}
+use mathlib.Core.Bool.{Bool, true, false, not, _||_, true≢false}
+use mathlib.Core.List.{List, [], _∷_, _++_}
 use mathlib.Core.Logic.{_⊎_, inl, inr}
 use mathlib.Core.Path.{_≡_, refl, sym, _∙_, ap, subst}
 use Prim.Native.Nat.{ℕ, zero, suc, _+_, _*_, _≤_, _<_}
@@ -12,7 +12,7 @@ use lib.ListN.{length, length-append}
 use borrow.Author.Tests.{eqb-true, eqb-false}
 use Rattle.theory.specs.Fills.{Moves, Settles, turns}
 use Rattle.theory.proofs.Bools.{tested}
-use Rattle.theory.specs.Rounds.{run, Valid, Round, AllRounds, rounds, Rest, AnyOrder}
+use Rattle.theory.specs.Rounds.{run, Round, AllRounds, rounds, Rest, AnyOrder}
 use Rattle.theory.proofs.Fills.{Filling, valid-append, turns-valid, moves-none, round-more, turns-round}
 use Rattle.theory.proofs.Rounds.{run-append, run-still, rounds-keeps, joined, joined-valid, rounds-run, run-grows}
 use Rattle.theory.specs.Slices.{Progress, fresh, ended, after, Slice, full, over, visit, up, rising, Slices, none, more}

@@ -49,8 +49,7 @@ module _ (g : Grammar) (k : ℕ → ℕ) where
   fits-at c [] e p m = absurd (List·Memᴰ·not-nil m)
   fits-at c (q ∷ ps) e p m =
       let s = and-split (leb (formCost k c (g .body q)) 65535) _ e in
-      let ih : List·Memᴰ p ps → formCost k c (g .body p) ≤ 65535 = fits-at c ps (s .1) p in
-      elim (List·Memᴰ·cases-cons m) [ inl d ↦ rw d (leb-true _ 65535 (s .0)) | inr n ↦ ih n ]
+      elim (List·Memᴰ·cases-cons m) [ inl d ↦ rw d (leb-true _ 65535 (s .0)) | inr n ↦ fits-at c ps (s .1) p n ]
 
   fits-all : (c : Costs) (ps : List ℕ) → ((p : ℕ) → List·Memᴰ p ps → formCost k c (g .body p) ≤ 65535) → fits c ps ≡ true
   fits-all c [] h = refl
@@ -209,17 +208,14 @@ module _ (g : Grammar) (k : ℕ → ℕ) (asked : Bool) (c : Costs) where
 
   plain-holds : (α : Form) → plain α ≡ true → (s : ℕ) → List·Memᴰ (rul s) α → ⊥
   plain-holds [] e s m = List·Memᴰ·not-nil m
-  plain-holds (tok t ∷ α) e s m =
-      let ih : List·Memᴰ (rul s) α → ⊥ = plain-holds α e s in
-      elim (List·Memᴰ·cases-cons m) [ inl d ↦ let z : _≡_ {A = ℕ} 0 1 = cc in omega arith | inr n ↦ ih n ]
+  plain-holds (tok t ∷ α) e s m = elim (List·Memᴰ·cases-cons m) [ inl d ↦ let z : _≡_ {A = ℕ} 0 1 = cc in omega arith | inr n ↦ plain-holds α e s n ]
   plain-holds (rul r ∷ α) e s m = false≢true e
 
   all-plain : (ps : List ℕ) → allPlain ps ≡ true → (p : ℕ) → List·Memᴰ p ps → plain (g .body p) ≡ true
   all-plain [] e p m = absurd (List·Memᴰ·not-nil m)
   all-plain (q ∷ ps) e p m =
       let s = and-split (plain (g .body q)) _ e in
-      let ih : List·Memᴰ p ps → plain (g .body p) ≡ true = all-plain ps (s .1) p in
-      elim (List·Memᴰ·cases-cons m) [ inl d ↦ rw d (s .0) | inr n ↦ ih n ]
+      elim (List·Memᴰ·cases-cons m) [ inl d ↦ rw d (s .0) | inr n ↦ all-plain ps (s .1) p n ]
 
   module _ (ret : asked ≡ true → Returns g k start c) where
     cheapest-is : (r : ℕ) {p : ℕ} → cheapest r ≡ some p → Sentence.Cheapest g k c r p

@@ -361,8 +361,7 @@ module _ (g : Grammar) (k : ℕ → ℕ) (ok : Proper g) (own : (r : ℕ) → r 
   loop-ends : (ms : List (List (List ℕ))) → 0 < length (map length ms) → (fuel : ℕ) (ds : List ℕ) → Fits (map length ms) ds → product (map length ms) ≤ turns (map length ms) ds + fuel → (out : List (List ℕ)) × Loop ms ds out
   loop-ends ms sm zero ds f le = absurd (omega (arith, turns-below (map length ms) ds f))
   loop-ends ms sm (suc fuel) ds f le =
-      let ih : (es : List ℕ) → Fits (map length ms) es → product (map length ms) ≤ turns (map length ms) es + fuel → (out : List (List ℕ)) × Loop ms es out = loop-ends ms sm fuel in
-      go (carry (map length ms) ds (length ds - 1)) refl (carried-all (map length ms) ds f sm) ih
+      go (carry (map length ms) ds (length ds - 1)) refl (carried-all (map length ms) ds f sm) (loop-ends ms sm fuel)
     where
       go : (o : Option (List ℕ)) → carry (map length ms) ds (length ds - 1) ≡ o → Carried (map length ms) ds f o
           → ((es : List ℕ) → Fits (map length ms) es → product (map length ms) ≤ turns (map length ms) es + fuel → (out : List (List ℕ)) × Loop ms es out) → (out : List (List ℕ)) × Loop ms ds out

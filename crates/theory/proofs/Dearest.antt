@@ -159,12 +159,10 @@ module _ (g : Grammar) (k : ℕ → ℕ) (beyond : Bool) where
 
   dearest-run-reach : (v : List ℕ) (p : ℕ) → List·Memᴰ p v → (c : Costs) → min (formDearest addUp k c (g .body p)) noBound ≤ run (dearestVisit g k beyond) v c (g .owner p)
   dearest-run-reach [] p m c = absurd (List·Memᴰ·not-nil m)
-  dearest-run-reach (q ∷ v) p m c =
-      let ih : List·Memᴰ p v → min (formDearest addUp k (dearestVisit g k beyond q c) (g .body p)) noBound ≤ run (dearestVisit g k beyond) v (dearestVisit g k beyond q c) (g .owner p) = λ n. dearest-run-reach v p n (dearestVisit g k beyond q c) in
-      elim (List·Memᴰ·cases-cons m) [
-        | inl e ↦ omega (arith, dearest-run-up v (dearestVisit g k beyond q c) (g .owner p), subst (λ z. min (formDearest addUp k c (g .body p)) noBound ≤ dearestVisit g k beyond z c (g .owner p)) e (dearest-owner g k beyond p c))
-        | inr l ↦ omega (arith, ih l, form-mono addup-adds k c (dearestVisit g k beyond q c) (dearest-up g k beyond q c) (g .body p))
-      ]
+  dearest-run-reach (q ∷ v) p m c = elim (List·Memᴰ·cases-cons m) [
+    | inl e ↦ omega (arith, dearest-run-up v (dearestVisit g k beyond q c) (g .owner p), subst (λ z. min (formDearest addUp k c (g .body p)) noBound ≤ dearestVisit g k beyond z c (g .owner p)) e (dearest-owner g k beyond p c))
+    | inr l ↦ omega (arith, dearest-run-reach v p l (dearestVisit g k beyond q c), form-mono addup-adds k c (dearestVisit g k beyond q c) (dearest-up g k beyond q c) (g .body p))
+  ]
 
 module _ (g : Grammar) (k : ℕ → ℕ) (ok : Proper g) (lim : Limits g k) where
   -- levels up to R stay below `noBound`
@@ -176,9 +174,8 @@ module _ (g : Grammar) (k : ℕ → ℕ) (ok : Proper g) (lim : Limits g k) wher
   level-small : (n r : ℕ) → levelDearest addUp g k n r ≤ 65535 + n * 16384
   level-small zero r = omega arith
   level-small (suc n) r =
-      let ih : (q : ℕ) → levelDearest addUp g k n q ≤ 65535 + n * 16384 = λ q. level-small n q in
       highest-le (g .prods) _ _ (λ p lt. elim (tested (eqb r (g .owner p))) [
-        | inl e ↦ rw e (omega (arith, form-small (levelDearest addUp g k n) (65535 + n * 16384) (omega arith) ih (g .body p), lim .long p lt))
+        | inl e ↦ rw e (omega (arith, form-small (levelDearest addUp g k n) (65535 + n * 16384) (omega arith) (level-small n) (g .body p), lim .long p lt))
         | inr e ↦ rw e (omega arith)
       ])
 
@@ -234,10 +231,9 @@ module _ (g : Grammar) (k : ℕ → ℕ) (ok : Proper g) (lim : Limits g k) wher
   ]
   parts c f (rul r ∷ α) lt =
       let s = addup-adds .known (c r) (formDearest addUp k c α) lt in
-      let ih : ((n : ℕ) × (formDearest addUp k c α ≤ formDearest addUp k (levelDearest addUp g k n) α)) ⊎ ((q : ℕ) × (d : ℕ) × Around g k α q d × GainingLoop g k q) = parts c f α (s .1) in
       elim (f r) [
         | inr l ↦ let y = backed-strings c f α (s .1) in inr (r, _, around-here r (y .0) (y .1), l)
-        | inl h ↦ elim ih [
+        | inl h ↦ elim (parts c f α (s .1)) [
           | inr i ↦ let y = backed-sentence c f r (s .0) in inr (i .0, _, around-front (y .0) (derives→yields (y .1)) (i .2), i .3)
           | inl i ↦
               let n = h .1 + i .0 in

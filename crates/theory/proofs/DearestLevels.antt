@@ -29,18 +29,14 @@ highest (suc n) f = max (highest n f) (f n)
 
 pub highest-at : (n i : ℕ) (f : ℕ → ℕ) → i < n → f i ≤ highest n f
 highest-at zero i f lt = absurd (not-suc-le-zero lt)
-highest-at (suc n) i f lt =
-    let ih : i < n → f i ≤ highest n f = λ l. highest-at n i f l in
-    elim (eq-or-lt-of-le (le-of-suc-le-suc lt)) [ inl e ↦ omega (arith, ap f e) | inr l ↦ omega (arith, ih l) ]
+highest-at (suc n) i f lt = elim (eq-or-lt-of-le (le-of-suc-le-suc lt)) [ inl e ↦ omega (arith, ap f e) | inr l ↦ omega (arith, highest-at n i f l) ]
 
 pub highest-is : (n : ℕ) (f : ℕ → ℕ) → 0 < highest n f → (i : ℕ) × (i < n) × (f i ≡ highest n f)
 highest-is zero f lt = absurd (not-suc-le-zero lt)
-highest-is (suc n) f lt =
-    let ih : 0 < highest n f → (i : ℕ) × (i < n) × (f i ≡ highest n f) = λ l. highest-is n f l in
-    elim (decLe (f n) (highest n f)) [
-      | yes l ↦ let r = ih (omega arith) in (r .0, omega (arith, r .1), omega (arith, r .2))
-      | no l ↦ (n, omega arith, omega arith)
-    ]
+highest-is (suc n) f lt = elim (decLe (f n) (highest n f)) [
+  | yes l ↦ let r = highest-is n f (omega arith) in (r .0, omega (arith, r .1), omega (arith, r .2))
+  | no l ↦ (n, omega arith, omega arith)
+]
 
 pub highest-mono : (n : ℕ) (f h : ℕ → ℕ) → ((i : ℕ) → f i ≤ h i) → highest n f ≤ highest n h
 highest-mono zero f h le = omega arith
@@ -85,12 +81,10 @@ module _ {op : ℕ → ℕ → ℕ} (a : WayToAdd op) where
 
     pub level-upto : (m n r : ℕ) → m ≤ n → levelDearest op g k m r ≤ levelDearest op g k n r
     level-upto m zero r l = subst (λ z. levelDearest op g k m r ≤ levelDearest op g k z r) (let e : m ≡ 0 = omega arith in e) (omega arith)
-    level-upto m (suc n) r l =
-        let ih : m ≤ n → levelDearest op g k m r ≤ levelDearest op g k n r = λ h. level-upto m n r h in
-        elim (decLe m n) [
-          | yes h ↦ omega (arith, ih h, level-rises n r)
-          | no h ↦ subst (λ z. levelDearest op g k m r ≤ levelDearest op g k z r) (let e : m ≡ suc n = omega arith in e) (omega arith)
-        ]
+    level-upto m (suc n) r l = elim (decLe m n) [
+      | yes h ↦ omega (arith, level-upto m n r h, level-rises n r)
+      | no h ↦ subst (λ z. levelDearest op g k m r ≤ levelDearest op g k z r) (let e : m ≡ suc n = omega arith in e) (omega arith)
+    ]
 
     -- what is counted is there: some sentence costs at least as much
     form-strings : (c : Costs) → ((r : ℕ) → 0 < c r → (w : List ℕ) × Sentence g r w × (c r ≤ suc (costOf k w))) → (α : Form) → 0 < formDearest op k c α
@@ -142,12 +136,11 @@ module _ {op : ℕ → ℕ → ℕ} (a : WayToAdd op) where
     fresh-part n (rul r ∷ α) lt =
         let s = a .known (levelDearest op g k (suc n) r) (formDearest op k (levelDearest op g k (suc n)) α) lt in
         let u = a .upto (levelDearest op g k (suc n) r) (formDearest op k (levelDearest op g k (suc n)) α) (s .0) (s .1) in
-        let ih : (formDearest op k (levelDearest op g k (suc n)) α ≤ formDearest op k (levelDearest op g k n) α) ⊎ RisingPart n α = fresh-part n α (s .1) in
         elim (decLe (levelDearest op g k (suc n) r) (levelDearest op g k n r)) [
           | no l ↦
               let y = form-yields (suc n) α (s .1) in
               inr (record { rule = r; adds = costOf k (y .0); leads = around-here r (y .0) (y .1); flat = λ e. omega (arith, e, y .2, u); fresh = omega arith })
-          | yes l ↦ elim ih [
+          | yes l ↦ elim (fresh-part n α (s .1)) [
             | inl m ↦ inl (a .mono _ _ _ _ l m)
             | inr i ↦
                 let y = level-sentence (suc n) r (s .0) in
@@ -226,12 +219,10 @@ module _ {op : ℕ → ℕ → ℕ} (a : WayToAdd op) where
       -- a rule that comes to more at some level than at level R
       pub level-loop : (m r : ℕ) → levelDearest op g k (g .rules) r < levelDearest op g k m r → GainingLoop g k r
       level-loop zero r lt = absurd (not-suc-le-zero lt)
-      level-loop (suc m) r lt =
-          let ih : levelDearest op g k (g .rules) r < levelDearest op g k m r → GainingLoop g k r = λ h. level-loop m r h in
-          elim (decLe (levelDearest op g k (suc m) r) (levelDearest op g k m r)) [
-            | yes h ↦ ih (omega arith)
-            | no h ↦ elim (decLe (g .rules) m) [
-              | yes j ↦ descend m r r 0 (λ s. false) (omega arith) (omega arith) (around-self r) (λ s e. absurd (false≢true e))
-              | no j ↦ absurd (omega (arith, level-upto (suc m) (g .rules) r (omega arith)))
-            ]
-          ]
+      level-loop (suc m) r lt = elim (decLe (levelDearest op g k (suc m) r) (levelDearest op g k m r)) [
+        | yes h ↦ level-loop m r (omega arith)
+        | no h ↦ elim (decLe (g .rules) m) [
+          | yes j ↦ descend m r r 0 (λ s. false) (omega arith) (omega arith) (around-self r) (λ s e. absurd (false≢true e))
+          | no j ↦ absurd (omega (arith, level-upto (suc m) (g .rules) r (omega arith)))
+        ]
+      ]

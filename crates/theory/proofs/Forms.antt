@@ -18,13 +18,10 @@ all-mono m n h (rul r ∷ α) e = let s = and-split (m r) _ e in and-join (h r (
 -- each rule in a form of marked rules is marked
 pub all-at : (m : Row) (α : Form) → allMarked m α ≡ true → (r : ℕ) → List·Memᴰ (rul r) α → m r ≡ true
 all-at m [] e r x = absurd (List·Memᴰ·not-nil x)
-all-at m (tok t ∷ α) e r x =
-    let ih : List·Memᴰ (rul r) α → m r ≡ true = all-at m α e r in
-    elim (List·Memᴰ·cases-cons x) [ inl d ↦ let z : _≡_ {A = ℕ} 0 1 = cc in absurd (omega arith) | inr y ↦ ih y ]
+all-at m (tok t ∷ α) e r x = elim (List·Memᴰ·cases-cons x) [ inl d ↦ let z : _≡_ {A = ℕ} 0 1 = cc in absurd (omega arith) | inr y ↦ all-at m α e r y ]
 all-at m (rul q ∷ α) e r x =
     let s = and-split (m q) _ e in
-    let ih : List·Memᴰ (rul r) α → m r ≡ true = all-at m α (s .1) r in
-    elim (List·Memᴰ·cases-cons x) [ inl d ↦ let i : r ≡ q = cc in ap m i ∙ s .0 | inr y ↦ ih y ]
+    elim (List·Memᴰ·cases-cons x) [ inl d ↦ let i : r ≡ q = cc in ap m i ∙ s .0 | inr y ↦ all-at m α (s .1) r y ]
 
 -- a rule of a form that is not all marked
 pub missing : (m : Row) (α : Form) → allMarked m α ≡ false → (q : ℕ) × List·Memᴰ (rul q) α × (m q ≡ false)
@@ -38,9 +35,5 @@ missing m (rul r ∷ α) e = elim (tested (m r)) [
 -- a rule's entry is part of a form's sum
 pub cost-part : (k : ℕ → ℕ) (c : Costs) (α : Form) (r : ℕ) → List·Memᴰ (rul r) α → c r ≤ formCost k c α
 cost-part k c [] r m = absurd (List·Memᴰ·not-nil m)
-cost-part k c (tok t ∷ α) r m =
-    let ih : List·Memᴰ (rul r) α → c r ≤ formCost k c α = cost-part k c α r in
-    elim (List·Memᴰ·cases-cons m) [ inl e ↦ let z : _≡_ {A = ℕ} 0 1 = cc in absurd (omega arith) | inr n ↦ omega (arith, ih n) ]
-cost-part k c (rul q ∷ α) r m =
-    let ih : List·Memᴰ (rul r) α → c r ≤ formCost k c α = cost-part k c α r in
-    elim (List·Memᴰ·cases-cons m) [ inl e ↦ let d : r ≡ q = cc in omega (arith, ap c d) | inr n ↦ omega (arith, ih n) ]
+cost-part k c (tok t ∷ α) r m = elim (List·Memᴰ·cases-cons m) [ inl e ↦ let z : _≡_ {A = ℕ} 0 1 = cc in absurd (omega arith) | inr n ↦ omega (arith, cost-part k c α r n) ]
+cost-part k c (rul q ∷ α) r m = elim (List·Memᴰ·cases-cons m) [ inl e ↦ let d : r ≡ q = cc in omega (arith, ap c d) | inr n ↦ omega (arith, cost-part k c α r n) ]

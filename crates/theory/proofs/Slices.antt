@@ -215,12 +215,10 @@ module _ {M S : Type 0} {step : ℕ → S → S} {view : M → S} {Keeps : M →
     slice-on : {n m t : ℕ} {j i : Progress} {a d : M} → Slice Visit P n j a m i d → Under t j a → Under (t + n) i d ⊎ Over i d
     slice-on {t = t} (full {j = j} {a = a}) u = inl (subst (λ z. Under z j a) (let e : t ≡ t + 0 = omega arith in e) u)
     slice-on (over e) u = absurd (true≢false (sym e ∙ u .going))
-    slice-on {t = t} (visit {n = n} {m = m} {j = j} {i = i} {a = a} {b = b} {d = d} x e v s) u =
-        let ih : Under (suc t) (after P x j) b → Under (suc t + n) i d ⊎ Over i d = λ w. slice-on s w in
-        elim (on x u v) [
-          | inl w ↦ subst (λ z. Under z i d ⊎ Over i d) (let q : suc t + n ≡ t + suc n = omega arith in q) (ih w)
-          | inr w ↦ let k = done-still s (w .shut) in inr (subst (λ z. Over z d) (sym (k .1)) (subst (λ z. Over (after P x j) z) (sym (k .2)) w))
-        ]
+    slice-on {t = t} (visit {n = n} {m = m} {j = j} {i = i} {a = a} {b = b} {d = d} x e v s) u = elim (on x u v) [
+      | inl w ↦ subst (λ z. Under z i d ⊎ Over i d) (let q : suc t + n ≡ t + suc n = omega arith in q) (slice-on s w)
+      | inr w ↦ let k = done-still s (w .shut) in inr (subst (λ z. Over z d) (sym (k .1)) (subst (λ z. Over (after P x j) z) (sym (k .2)) w))
+    ]
 
     slices-over : {t : ℕ} {j i : Progress} {a d : M} → Slices Visit P t j a i d → Over j a → Over i d
     slices-over none w = w
@@ -230,12 +228,10 @@ module _ {M S : Type 0} {step : ℕ → S → S} {view : M → S} {Keeps : M →
 
     slices-on : {s t : ℕ} {j i : Progress} {a d : M} → Slices Visit P s j a i d → Under t j a → Under (t + s) i d ⊎ Over i d
     slices-on {t = t} (none {j = j} {a = a}) u = inl (subst (λ z. Under z j a) (let e : t ≡ t + 0 = omega arith in e) u)
-    slices-on {s = s} {t = t} (more {s = r} {j = j} {i = i} {k = k} {a = a} {b = b} {d = d} n e x y) u =
-        let ih : Under (t + n) i b → Under (t + n + r) k d ⊎ Over k d = λ w. slices-on y w in
-        elim (slice-on x u) [
-          | inl w ↦ subst (λ z. Under z k d ⊎ Over k d) (let q : t + n + r ≡ t + s = omega (arith, e) in q) (ih w)
-          | inr w ↦ inr (slices-over y w)
-        ]
+    slices-on {s = s} {t = t} (more {s = r} {j = j} {i = i} {k = k} {a = a} {b = b} {d = d} n e x y) u = elim (slice-on x u) [
+      | inl w ↦ subst (λ z. Under z k d ⊎ Over k d) (let q : t + n + r ≡ t + s = omega (arith, e) in q) (slices-on y w)
+      | inr w ↦ inr (slices-over y w)
+    ]
 
     begun : 0 < P → Under 0 fresh start
     begun l = record {

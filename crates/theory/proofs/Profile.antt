@@ -77,19 +77,18 @@ module _ (g : Grammar) (ok : Proper g) where
   clash-upto {q = q} {t = t} (shared k a b) = omega (arith, starts-below q (k .isProd) t b)
   clash-upto (both k a b e) = omega arith
 
+  clash-pair : {r p q t : ℕ} → Clash g r p q t → Pair g r p q
+  clash-pair (shared k a b) = k
+  clash-pair (both k a b e) = k
+
   pub clash-rule : {r p q t : ℕ} → Clash g r p q t → r < g .rules
-  clash-rule (shared k a b) = subst (λ z. z < g .rules) (k .higher) (ok .owner _ (k .isProd))
-  clash-rule (both k a b e) = subst (λ z. z < g .rules) (k .higher) (ok .owner _ (k .isProd))
+  clash-rule c = let k = clash-pair c in subst (λ z. z < g .rules) (k .higher) (ok .owner _ (k .isProd))
 
   -- where T stands for the token of the least clash, the two share none
   pub least-none : {r p q : ℕ} → LeastClash g r p q (g .tokens) → (t : ℕ) → Starts g p t → Starts g q t → ⊥
   least-none {r} {p} {q} l t a b =
-      let k = go (l .is) in
+      let k = clash-pair (l .is) in
       l .least r p q t (shared k a b) (inr (refl, inr (refl, inr (refl, starts-below q (k .isProd) t b))))
-    where
-      go : Clash g r p q (g .tokens) → Pair g r p q
-      go (shared k a b) = k
-      go (both k a b e) = k
 
 -- a row's marks: below T what the production may start with, at T whether it can vanish
 module _ (g : Grammar) (m : Marks) (f : Table) (p t : ℕ) where
@@ -162,19 +161,16 @@ module _ (g : Grammar) (ok : Proper g) (m : Marks) (h : FirstExact g m) (f : Tab
   passes-share : {r p q t : ℕ} → Clash g r p q t → sharesOf g m f p q t ≡ true
   passes-share {r} {p} {q} {t} c = clash-told g ok m h f x r p q t .0 c .1
 
-  pair : {r p q t : ℕ} → Clash g r p q t → Pair g r p q
-  pair {r} {p} {q} {t} c = clash-told g ok m h f x r p q t .0 c .0
-
   passes-pair : {r p q t : ℕ} → Clash g r p q t → pairOf g m f p q ≡ true
   passes-pair {r} {p} {q} {t} c =
-      let k = pair c in
+      let k = clash-pair g ok c in
       and-join (and-join (lt-ltb p q (k .rises)) (eq-eqb (g .owner q) (g .owner p) (k .higher ∙ sym (k .lower)))) (some-at (sharesOf g m f p q) (suc (g .tokens)) t (clash-upto g ok c) (passes-share c))
 
   passes-low : {r p q t : ℕ} → Clash g r p q t → lowOf g m f r p ≡ true
-  passes-low {r} {p} {q} {t} c = let k = pair c in and-join (eq-eqb (g .owner p) r (k .lower)) (some-at (pairOf g m f p) (g .prods) q (k .isProd) (passes-pair c))
+  passes-low {r} {p} {q} {t} c = let k = clash-pair g ok c in and-join (eq-eqb (g .owner p) r (k .lower)) (some-at (pairOf g m f p) (g .prods) q (k .isProd) (passes-pair c))
 
   passes-rule : {r p q t : ℕ} → Clash g r p q t → ruleOf g m f r ≡ true
-  passes-rule {r} {p} {q} {t} c = let k = pair c in some-at (lowOf g m f r) (g .prods) p (omega (arith, k .rises, k .isProd)) (passes-low c)
+  passes-rule {r} {p} {q} {t} c = let k = clash-pair g ok c in some-at (lowOf g m f r) (g .prods) p (omega (arith, k .rises, k .isProd)) (passes-low c)
 
   -- no rule passes
   pub none-passes : (n : ℕ) → FirstBelow (ruleOf g m f) (g .rules) false n → Judged g passes

@@ -161,15 +161,12 @@ module _ {M S : Type 0} {step : ℕ → S → S} {view : M → S} {Keeps : M →
       whole = u .whole ++ (turns false P P ∷ []);
       rounded = all-snoc (u .whole) (turns false P P) (u .rounded) (turns-round false P);
       few = omega (arith, under-few u o, length-append (u .whole) (turns false P P ∷ []));
-      counts = count;
+      counts = rw (length-append (u .whole) (turns false P P ∷ [])) (omega (arith, u .counts, e));
       begin = d;
       ran = o .ran ∙ ap (run step (turns false P P)) (u .ran) ∙ sym (rounds-snoc step (u .whole) (turns false P P) (view start));
       keeps = f .filling .then start (u .begin) d (u .keeps) (o .keeps);
       part = moves-none (f .filling) d;
     }
-      where
-        count : suc m ≡ length (u .whole ++ (turns false P P ∷ [])) * P + 0
-        count = rw (length-append (u .whole) (turns false P P ∷ [])) (omega (arith, u .counts, e))
 
     -- a round without one leaves the job done
     ends : {m : ℕ} {j : Progress} {b d : M} (u : Under m j b) → Moves step view Keeps (turns false P P) (u .begin) false d → Over (ended false) d
@@ -190,7 +187,7 @@ module _ {M S : Type 0} {step : ℕ → S → S} {view : M → S} {Keeps : M →
     -- one visit
     on : {m : ℕ} {j : Progress} {b d : M} (x : Bool) → Under m j b → Visit (j .next) b x d → Under (suc m) (after P x j) d ⊎ Over (after P x j) d
     on {m} {j} {b} {d} x u v = elim (after-cases P x j) [
-      | inl k ↦ rw (k .1) (turn (k .0) (j .changed || x) refl)
+      | inl k ↦ rw (k .1) (turn (j .changed || x) (subst (λ n. Moves step view Keeps (turns false P n) (u .begin) (j .changed || x) d) (k .0) longer) (k .0))
       | inr k ↦ rw (k .1) (inl (record {
         below = omega (arith, k .0, u .below);
         going = refl;
@@ -208,9 +205,9 @@ module _ {M S : Type 0} {step : ℕ → S → S} {view : M → S} {Keeps : M →
         longer : Moves step view Keeps (turns false P (j .next + 1)) (u .begin) (j .changed || x) d
         longer = round-more (f .filling) false (j .next) (j .next) (u .below) refl (under-inv u) (u .part) (f .moves (j .next) (u .below) b d x (under-held u) v)
 
-        turn : (e : j .next + 1 ≡ P) (y : Bool) → (j .changed || x) ≡ y → Under (suc m) (ended y) d ⊎ Over (ended y) d
-        turn e true q = inl (again u e (subst (λ z. Moves step view Keeps (turns false P P) (u .begin) z d) q (subst (λ n. Moves step view Keeps (turns false P n) (u .begin) (j .changed || x) d) e longer)))
-        turn e false q = inr (ends u (subst (λ z. Moves step view Keeps (turns false P P) (u .begin) z d) q (subst (λ n. Moves step view Keeps (turns false P n) (u .begin) (j .changed || x) d) e longer)))
+        turn : (y : Bool) → Moves step view Keeps (turns false P P) (u .begin) y d → j .next + 1 ≡ P → Under (suc m) (ended y) d ⊎ Over (ended y) d
+        turn true o e = inl (again u e o)
+        turn false o e = inr (ends u o)
 
     slice-on : {n m t : ℕ} {j i : Progress} {a d : M} → Slice Visit P n j a m i d → Under t j a → Under (t + n) i d ⊎ Over i d
     slice-on {t = t} (full {j = j} {a = a}) u = inl (subst (λ z. Under z j a) (let e : t ≡ t + 0 = omega arith in e) u)
@@ -267,7 +264,7 @@ module _ {M S : Type 0} {step : ℕ → S → S} {view : M → S} {Keeps : M →
 
       -- after one round more than the bound the job is done, however the visits are divided into slices
       pub done-by : (bound + 1) * P ≤ t → i .done ≡ true
-      done-by l = elim (slices-on s (begun some)) [ inl u ↦ absurd (late u) | inr w ↦ w .shut ]
-        where
-          late : Under (0 + t) i d → ⊥
-          late u = let few : length (u .whole) * P ≤ bound * P = mul-le-mul-right P (u .few) in omega (arith, u .counts, u .below)
+      done-by l = elim (slices-on s (begun some)) [
+        | inl u ↦ let few : length (u .whole) * P ≤ bound * P = mul-le-mul-right P (u .few) in absurd (omega (arith, u .counts, u .below))
+        | inr w ↦ w .shut
+      ]

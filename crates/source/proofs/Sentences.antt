@@ -270,13 +270,11 @@ module _ (g : Grammar) (k : ℕ → ℕ) (ok : Proper g) (own : (r : ℕ) → r 
           let least-of = owner-least g k c ok x (has .0) (has .1) in
           let owner-of = ap c (has .2) in
           let same : m ≡ c r = omega (arith, least (w .0) (w .1) (w .2), w .3, same-of (w .0) (w .1) (w .2), has .3, same-of (has .0) (has .1) (has .2)) in
-          ap (λ z. z .idxs) e ∙ those-same (test g k b r m) (suits g k c r) (g .prods) (λ p l. agree same p l (eqb (g .owner p) r) refl)
+          ap (λ z. z .idxs) e ∙ those-same (test g k b r m) (suits g k c r) (g .prods) (λ p l. elim (tested (eqb (g .owner p) r)) [ inl o ↦ agree same p l o | inr o ↦ rw (o, eqb-turned r (g .owner p), o) ])
         where
-          agree : m ≡ c r → (p : ℕ) → p < g .prods → (t : Bool) → eqb (g .owner p) r ≡ t → test g k b r m p ≡ suits g k c r p
-          agree same p l true o = ap₂ _&&_ (eqb-turned (g .owner p) r)
+          agree : m ≡ c r → (p : ℕ) → p < g .prods → eqb (g .owner p) r ≡ true → test g k b r m p ≡ suits g k c r p
+          agree same p l o = ap₂ _&&_ (eqb-turned (g .owner p) r)
               (ap₂ eqb (same-of p l (eqb-true (g .owner p) r o)) same ∙ sym (ap (λ (z : Bool). z && eqb (formCost k c (g .body p)) (c r)) (le-leb (c r) 65535 low)))
-          agree same p l false o = ap (λ (z : Bool). z && eqb (formCost k b (g .body p)) m) o
-              ∙ sym (ap (λ (z : Bool). z && (leb (c r) 65535 && eqb (formCost k c (g .body p)) (c r))) (sym (eqb-turned (g .owner p) r) ∙ o))
 
   -- what a call with at most n calls inside it returns
   abbrev Known : ℕ → ℕ → List (List ℕ) → Type 0

@@ -301,24 +301,25 @@ module _ (g : Grammar) (k : ℕ → ℕ) (ok : Proper g) (lim : Limits g k) wher
         | inr l ↦ absurd (bounded lt l)
       ]
 
-      over : (v : ℕ) → c r ≡ suc v → 65534 < v → (b : Bool) → leb noBound (suc v) ≡ b → Dearest g k r (cond b 65535 65537)
-      over v e l true t = elim (f r) [ inl i ↦ absurd (omega (arith, leb-true noBound (suc v) t, e, i .0)) | inr i ↦ unbounded (loop-unbounded i) refl ]
-      over v e l false t =
-          let lt : c r < noBound = omega (arith, leb-false noBound (suc v) t, e) in
-          let w = reached lt (omega (arith, e)) in
-          let m = greatest g k ok r (bounded lt) (w .0, w .1) in
-          above (m .0) (omega (arith, e, w .2, m .1 .most (w .0) (w .1))) (m .1) refl
-
-      found : (v : ℕ) → c r ≡ suc v → (b : Bool) → leb v 65534 ≡ b → Dearest g k r (cond b v (cond (leb noBound (suc v)) 65535 65537))
-      found v e true t =
-          let l = leb-true v 65534 t in
-          let w = reached (omega (arith, e)) (omega (arith, e)) in
-          is l (record { met = (w .0, w .1, omega (arith, e, w .2, held (w .0) (w .1) .exact (omega (arith, e)))); most = λ u d. omega (arith, e, held u d .exact (omega (arith, e))) })
-      found v e false t = over v e (leb-false v 65534 t) (leb noBound (suc v)) refl
+      over : (v : ℕ) → c r ≡ suc v → 65534 < v → Dearest g k r (cond (leb noBound (suc v)) 65535 65537)
+      over v e l = elim (tested (leb noBound (suc v))) [
+        | inl t ↦ rw t (elim (f r) [ inl i ↦ absurd (omega (arith, leb-true noBound (suc v) t, e, i .0)) | inr i ↦ unbounded (loop-unbounded i) refl ])
+        | inr t ↦
+            let lt : c r < noBound = omega (arith, leb-false noBound (suc v) t, e) in
+            let w = reached lt (omega (arith, e)) in
+            let m = greatest g k ok r (bounded lt) (w .0, w .1) in
+            rw t (above (m .0) (omega (arith, e, w .2, m .1 .most (w .0) (w .1))) (m .1) refl)
+      ]
 
       go : (x : ℕ) → c r ≡ x → Dearest g k r (endsAs x)
       go zero e = none (λ h. omega (arith, e, held (h .0) (h .1) .known)) refl
-      go (suc v) e = found v e (leb v 65534) refl
+      go (suc v) e = elim (tested (leb v 65534)) [
+        | inl t ↦
+            let l = leb-true v 65534 t in
+            let w = reached (omega (arith, e)) (omega (arith, e)) in
+            rw t (is l (record { met = (w .0, w .1, omega (arith, e, w .2, held (w .0) (w .1) .exact (omega (arith, e)))); most = λ u d. omega (arith, e, held u d .exact (omega (arith, e))) }))
+        | inr t ↦ rw t (over v e (leb-false v 65534 t))
+      ]
 
   -- R rounds, then visits beyond them until none changes anything: the entries
   pub dearest-exact : (vs : List (List ℕ)) → AllRounds (g .prods) vs → length vs ≡ g .rules → (v : List ℕ) → Valid (g .prods) v

@@ -17,7 +17,7 @@ use Rattle.theory.specs.Profile.{Starts, own, after, Pair, Clash, shared
 use Rattle.theory.specs.Tables.{Proper, FirstExact, FollowExact}
 use Rattle.theory.specs.Visits.{Table, Marks, nullable, firstOf}
 use Rattle.theory.proofs.Below.{some-at, first-at, first-none, scan-true}
-use Rattle.theory.proofs.Bools.{and-split, and-join, or-split, or-left, or-right, eqb-same}
+use Rattle.theory.proofs.Bools.{and-split, and-join, or-split, or-left, or-right, eqb-same, tested}
 use Rattle.theory.proofs.Follow.{vanishes-true, vanishes-whole, ahead-true, ahead-whole}
 use Rattle.theory.proofs.Standing.{vanishes-yields, yields-vanishes, ahead-yields, yields-ahead, follow-stands}
 use Rattle.theory.proofs.Yields.{yields-token, derives→yields, yields→derives}
@@ -200,12 +200,15 @@ module _ (g : Grammar) (ok : Proper g) (m : Marks) (h : FirstExact g m) (f : Tab
 -- the first number that passes a test
 least-first : (f : ℕ → Bool) (n : ℕ) → FirstBelow f n (ltb (leastOf f n) n) (leastOf f n)
 least-first f zero = first-none f 0 0 (λ i l. absurd (not-suc-le-zero l))
-least-first f (suc n) = go (ltb (leastOf f n) n) (f n) refl (least-first f n)
-  where
-    go : (a b : Bool) → f n ≡ b → FirstBelow f n a (leastOf f n) → FirstBelow f (suc n) (ltb (cond a (leastOf f n) (cond b n (suc n))) (suc n)) (cond a (leastOf f n) (cond b n (suc n)))
-    go true b e k = rw (lt-ltb (leastOf f n) (suc n) (omega (arith, k .below refl))) (first-at f (suc n) (leastOf f n) (omega (arith, k .below refl)) (k .passes refl) (k .first refl))
-    go false true e k = rw (lt-ltb n (suc n) (omega arith)) (first-at f (suc n) n (omega arith) e (k .none refl))
-    go false false e k = rw (le-ltb (suc n) (suc n) (omega arith)) (first-none f (suc n) (suc n) (λ i l. elim (eq-or-lt-of-le (le-of-suc-le-suc l)) [ inl q ↦ ap f q ∙ e | inr j ↦ k .none refl i j ]))
+least-first f (suc n) =
+    let k = least-first f n in
+    elim (tested (ltb (leastOf f n) n)) [
+      | inl a ↦ rw (a, lt-ltb (leastOf f n) (suc n) (omega (arith, k .below a))) (first-at f (suc n) (leastOf f n) (omega (arith, k .below a)) (k .passes a) (k .first a))
+      | inr a ↦ elim (tested (f n)) [
+        | inl e ↦ rw (a, e, lt-ltb n (suc n) (omega arith)) (first-at f (suc n) n (omega arith) e (k .none a))
+        | inr e ↦ rw (a, e, le-ltb (suc n) (suc n) (omega arith)) (first-none f (suc n) (suc n) (λ i l. elim (eq-or-lt-of-le (le-of-suc-le-suc l)) [ inl q ↦ ap f q ∙ e | inr j ↦ k .none a i j ]))
+      ]
+    ]
 
 -- a test that some number below n passes has a first one
 least-of : (f : ℕ → Bool) (n : ℕ) → some n f ≡ true → FirstBelow f n true (leastOf f n)
@@ -213,19 +216,17 @@ least-of f n e = scan-true f n (leastOf f n) e (least-first f n)
 
 -- there is a verdict, and the tests give it
 pub verdict-judged : (g : Grammar) → Proper g → (m : Marks) → FirstExact g m → (f : Table) → FollowExact g f → Judged g (verdictBy g m f)
-verdict-judged g ok m h f x = go (ltb (leastOf (ruleOf g m f) (g .rules)) (g .rules)) (least-first (ruleOf g m f) (g .rules))
-  where
-    go : (a : Bool) → FirstBelow (ruleOf g m f) (g .rules) a (leastOf (ruleOf g m f) (g .rules)) → Judged g
-        (let r = leastOf (ruleOf g m f) (g .rules) in
-        let p = leastOf (lowOf g m f r) (g .prods) in
-        let q = leastOf (pairOf g m f p) (g .prods) in
-        cond a (clashes r p q (leastOf (sharesOf g m f p q) (suc (g .tokens)))) passes)
-    go false b = none-passes g ok m h f x _ b
-    go true b =
-        let r = leastOf (ruleOf g m f) (g .rules) in
-        let low = least-of (lowOf g m f r) (g .prods) (b .passes refl) in
-        let p = leastOf (lowOf g m f r) (g .prods) in
-        let high = least-of (pairOf g m f p) (g .prods) (and-split (eqb (g .owner p) r) _ (low .passes refl) .1) in
-        let q = leastOf (pairOf g m f p) (g .prods) in
-        let token = least-of (sharesOf g m f p q) (suc (g .tokens)) (and-split (ltb p q && eqb (g .owner q) (g .owner p)) _ (high .passes refl) .1) in
-        found-least g ok m h f x r p q (leastOf (sharesOf g m f p q) (suc (g .tokens))) (record { rule = b; low = low; high = high; token = token })
+verdict-judged g ok m h f x =
+    let r = leastOf (ruleOf g m f) (g .rules) in
+    let p = leastOf (lowOf g m f r) (g .prods) in
+    let q = leastOf (pairOf g m f p) (g .prods) in
+    let first = least-first (ruleOf g m f) (g .rules) in
+    elim (tested (ltb r (g .rules))) [
+      | inr e ↦ rw e (none-passes g ok m h f x _ (rw e at first))
+      | inl e ↦
+          let b : FirstBelow (ruleOf g m f) (g .rules) true r = rw e at first in
+          let low = least-of (lowOf g m f r) (g .prods) (b .passes refl) in
+          let high = least-of (pairOf g m f p) (g .prods) (and-split (eqb (g .owner p) r) _ (low .passes refl) .1) in
+          let token = least-of (sharesOf g m f p q) (suc (g .tokens)) (and-split (ltb p q && eqb (g .owner q) (g .owner p)) _ (high .passes refl) .1) in
+          rw e (found-least g ok m h f x r p q (leastOf (sharesOf g m f p q) (suc (g .tokens))) (record { rule = b; low = low; high = high; token = token }))
+    ]

@@ -1,5 +1,5 @@
 -- The profile: the tests on finished tables are the definitions, the first of each in turn is the least clash, and there is one verdict.
-use mathlib.Core.Bool.{Bool, true, false, _&&_, cond, true≢false}
+use mathlib.Core.Bool.{Bool, true, false, _&&_, true≢false}
 use mathlib.Core.List.{[], _∷_, List·Memᴰ, List·Memᴰ·head, List·Memᴰ·tail, List·Memᴰ·cases-cons, List·Memᴰ·not-nil, Memᴰ·append-right}
 use mathlib.Core.Logic.{inl, inr, _↔_}
 use mathlib.Core.Path.{_≡_, refl, sym, _∙_, ap, subst}

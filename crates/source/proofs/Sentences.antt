@@ -1,6 +1,6 @@
 -- The source's `min_sentences`: where it returns, its result is the list, in its order, and the rule is not circular.
 use mathlib.Core.Bool.{Bool, true, false, cond, not, _&&_, _||_, false≢true}
-use mathlib.Core.List.{List, [], _∷_, _++_, map, append-nil, append-assoc, cons≢nil, List·Memᴰ, List·Memᴰ·head, List·Memᴰ·tail}
+use mathlib.Core.List.{List, [], _∷_, _++_, map, map-append, map-map, append-nil, append-assoc, cons≢nil, List·Memᴰ, List·Memᴰ·head, List·Memᴰ·tail}
 use mathlib.Core.Logic.{inl, inr}
 use mathlib.Core.Option.{Option, none, some}
 use mathlib.Core.Path.{_≡_, refl, sym, _∙_, ap, ap₂, subst}
@@ -211,20 +211,14 @@ abbrev words : List Item → List (List ℕ)
 words xs = map (λ x. x .tokens) xs
 
 words-append : (xs ys : List Item) → words (xs ++ ys) ≡ words xs ++ words ys
-words-append [] ys = refl
-words-append (x ∷ xs) ys = ap (λ z. x .tokens ∷ z) (words-append xs ys)
+words-append = map-append (λ x. x .tokens)
 
 words-by : (p : ℕ) (xs : List Item) → words (map (by p) xs) ≡ words xs
-words-by p [] = refl
-words-by p (x ∷ xs) = ap (λ z. x .tokens ∷ z) (words-by p xs)
-
-words-joined : (x : Item) (ys : List Item) → words (map (joined x) ys) ≡ map (λ w. x .tokens ++ w) (words ys)
-words-joined x [] = refl
-words-joined x (y ∷ ys) = ap (λ z. (x .tokens ++ y .tokens) ∷ z) (words-joined x ys)
+words-by p xs = map-map (λ x. x .tokens) (by p) xs
 
 words-pairs : (xs ys : List Item) → words (pairs xs ys) ≡ together (words xs) (words ys)
 words-pairs [] ys = refl
-words-pairs (x ∷ xs) ys = words-append (map (joined x) ys) (pairs xs ys) ∙ ap₂ _++_ (words-joined x ys) (words-pairs xs ys)
+words-pairs (x ∷ xs) ys = words-append (map (joined x) ys) (pairs xs ys) ∙ ap₂ _++_ (map-map (λ y. y .tokens) (joined x) ys ∙ sym (map-map (λ w. x .tokens ++ w) (λ y. y .tokens) ys)) (words-pairs xs ys)
 
 words-before : (t : ℕ) (xs : List Item) → words (map (before t) xs) ≡ together ((t ∷ []) ∷ []) (words xs)
 words-before t [] = refl

@@ -213,9 +213,6 @@ words xs = map (λ x. x .tokens) xs
 words-append : (xs ys : List Item) → words (xs ++ ys) ≡ words xs ++ words ys
 words-append = map-append (λ x. x .tokens)
 
-words-by : (p : ℕ) (xs : List Item) → words (map (by p) xs) ≡ words xs
-words-by p xs = map-map (λ x. x .tokens) (by p) xs
-
 words-pairs : (xs ys : List Item) → words (pairs xs ys) ≡ together (words xs) (words ys)
 words-pairs [] ys = refl
 words-pairs (x ∷ xs) ys = words-append (map (joined x) ys) (pairs xs ys) ∙ ap₂ _++_ (map-map (λ y. y .tokens) (joined x) ys ∙ sym (map-map (λ w. x .tokens ++ w) (λ y. y .tokens) ys)) (words-pairs xs ys)
@@ -223,9 +220,6 @@ words-pairs (x ∷ xs) ys = words-append (map (joined x) ys) (pairs xs ys) ∙ a
 words-before : (t : ℕ) (xs : List Item) → words (map (before t) xs) ≡ together ((t ∷ []) ∷ []) (words xs)
 words-before t [] = refl
 words-before t (x ∷ xs) = ap (λ z. (t ∷ x .tokens) ∷ z) (words-before t xs)
-
-length-words : (xs : List Item) → length (words xs) ≡ length xs
-length-words xs = length-map xs (λ x. x .tokens)
 
 -- `vec![0; prod.len()]`
 replicate-zeros : (n : ℕ) (bs : List ℕ) → n ≡ length bs → replicate n 0 ≡ zeros bs
@@ -297,7 +291,7 @@ module _ (g : Grammar) (k : ℕ → ℕ) (ok : Proper g) (own : (r : ℕ) → r 
       record {
         within = and-join (e .0) (i .within);
         long = ap suc (i .long);
-        starts = (omega (arith, ap length (e .1), length-words (listing g k c n r), listing-some g k c ok x n r (e .0)), i .starts);
+        starts = (omega (arith, ap length (e .1), length-map (listing g k c n r) (λ x. x .tokens), listing-some g k c ok x n r (e .0)), i .starts);
         mixes = ap₂ together (e .1) (i .mixes) ∙ sym (words-pairs (listing g k c n r) (choices (listing g k c n) α));
       }
 
@@ -330,7 +324,7 @@ module _ (g : Grammar) (k : ℕ → ℕ) (ok : Proper g) (own : (r : ℕ) → r 
     where
       last : (t : Bool) (two : List (List ℕ)) → Pushes g (Runs g k b n) (cond t (j ∷ []) []) two
           → ((not t || allMarked (deep g k c n) (g .body j)) ≡ true) × (two ≡ words (cond t (map (by j) (choices (listing g k c n) (g .body j))) []))
-      last true two z = let o = pushed-one n ih j (omega arith) z in (o .0, o .1 ∙ sym (words-by j (choices (listing g k c n) (g .body j))))
+      last true two z = let o = pushed-one n ih j (omega arith) z in (o .0, o .1 ∙ sym (map-map (λ x. x .tokens) (by j) (choices (listing g k c n) (g .body j))))
       last false _ stop = (refl, refl)
 
   runs-list : (n r : ℕ) → r < g .rules → (sts : List (List ℕ)) → Runs g k b n r sts → Known n r sts

@@ -54,15 +54,9 @@ addup-is (suc v) (suc u) a b = cut (max v u) (v + u) ∙ sym (rw (sums, both) re
     sums : suc v + suc u - 1 ≡ suc (v + u)
     sums = omega arith
 
--- known parts make a known sum, of at least either
+-- known parts make a known sum
 pub addup-known : (x y : ℕ) → 0 < x → 0 < y → 0 < addUp x y
 addup-known x y a b = omega (arith, addup-is x y a b)
-
-addup-left : (x y : ℕ) → 0 < x → 0 < y → x ≤ addUp x y
-addup-left x y a b = omega (arith, addup-is x y a b)
-
-addup-right : (x y : ℕ) → 0 < x → 0 < y → y ≤ addUp x y
-addup-right x y a b = omega (arith, addup-is x y a b)
 
 -- one step adds at most one beyond 65536
 pub addup-grows : (x y M : ℕ) → 65535 ≤ M → x ≤ M → y ≤ M → addUp x y ≤ suc M
@@ -111,7 +105,7 @@ pub addup-allows : (x y c d : ℕ) → Allows x c → Allows y d → Allows (add
 addup-allows x y c d h i = record {
   known = addup-known x y (h .known) (i .known);
   exact = λ l. let e = addup-is x y (h .known) (i .known) in omega (arith, h .exact (omega arith), i .exact (omega arith));
-  bound = λ l. addup-cap x y c d (h .bound (omega (arith, addup-left x y (h .known) (i .known)))) (i .bound (omega (arith, addup-right x y (h .known) (i .known))));
+  bound = λ l. let e = addup-is x y (h .known) (i .known) in addup-cap x y c d (h .bound (omega arith)) (i .bound (omega arith));
 }
 
 pub token-allows : (n : ℕ) → Allows (suc n) n

@@ -115,9 +115,6 @@ module _ {op : ℕ → ℕ → ℕ} (a : WayToAdd op) where
       flat : adds ≡ 0 → formDearest op k (levelDearest op g k (suc n)) α ≤ levelDearest op g k (suc n) rule
       fresh : levelDearest op g k n rule < levelDearest op g k (suc n) rule
 
-    form-yields : (n : ℕ) (α : Form) → 0 < formDearest op k (levelDearest op g k n) α → (w : List ℕ) × Yields g α (map tok w) × (formDearest op k (levelDearest op g k n) α ≤ suc (costOf k w))
-    form-yields n α = form-strings (levelDearest op g k n) (level-sentence n) α
-
     -- a form that rises at this level holds such a rule
     fresh-part : (n : ℕ) (α : Form) → 0 < formDearest op k (levelDearest op g k (suc n)) α → (formDearest op k (levelDearest op g k (suc n)) α ≤ formDearest op k (levelDearest op g k n) α) ⊎ RisingPart n α
     fresh-part n [] lt = inl (omega arith)
@@ -138,7 +135,7 @@ module _ {op : ℕ → ℕ → ℕ} (a : WayToAdd op) where
         let u = a .upto (levelDearest op g k (suc n) r) (formDearest op k (levelDearest op g k (suc n)) α) (s .0) (s .1) in
         elim (decLe (levelDearest op g k (suc n) r) (levelDearest op g k n r)) [
           | no l ↦
-              let y = form-yields (suc n) α (s .1) in
+              let y = form-strings (levelDearest op g k (suc n)) (level-sentence (suc n)) α (s .1) in
               inr (record { rule = r; adds = costOf k (y .0); leads = around-here r (y .0) (y .1); flat = λ e. omega (arith, e, y .2, u); fresh = omega arith })
           | yes l ↦ elim (fresh-part n α (s .1)) [
             | inl m ↦ inl (a .mono _ _ _ _ l m)

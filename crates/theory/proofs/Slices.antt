@@ -140,9 +140,6 @@ module _ {M S : Type 0} {step : ℕ → S → S} {view : M → S} {Keeps : M →
     under-inv : {m : ℕ} {j : Progress} {b : M} (u : Under m j b) → f .filling .Inv (view (u .begin))
     under-inv u = rw (u .ran) (rounds-keeps step P (f .filling .Inv) (f .filling .climb .kept) (u .whole) (u .rounded) (view start) inv)
 
-    under-held : {m : ℕ} {j : Progress} {b : M} (u : Under m j b) → f .Held b
-    under-held {b = b} u = f .held (u .begin) b (u .part .keeps) (f .held start (u .begin) (u .keeps) begins)
-
     -- a round that changed something was not one more than the bound
     under-few : {m : ℕ} {j : Progress} {b d : M} (u : Under m j b) → Moves step view Keeps (turns false P P) (u .begin) true d → length (u .whole) < bound
     under-few {d = d} u o = elim (decLe bound (length (u .whole))) [
@@ -203,7 +200,7 @@ module _ {M S : Type 0} {step : ℕ → S → S} {view : M → S} {Keeps : M →
     ]
       where
         longer : Moves step view Keeps (turns false P (j .next + 1)) (u .begin) (j .changed || x) d
-        longer = round-more (f .filling) false (j .next) (j .next) (u .below) refl (under-inv u) (u .part) (f .moves (j .next) (u .below) b d x (under-held u) v)
+        longer = round-more (f .filling) false (j .next) (j .next) (u .below) refl (under-inv u) (u .part) (f .moves (j .next) (u .below) b d x (f .held (u .begin) b (u .part .keeps) (f .held start (u .begin) (u .keeps) begins)) v)
 
         turn : (y : Bool) → Moves step view Keeps (turns false P P) (u .begin) y d → j .next + 1 ≡ P → Under (suc m) (ended y) d ⊎ Over (ended y) d
         turn true o e = inl (again u e o)

@@ -46,16 +46,13 @@ module _ (g : Grammar) (k : ℕ → ℕ) (ok : Proper g) where
     out = λ r l. elim (dearest-cases g k beyond p c r) [ inl e ↦ absurd (omega (arith, e .0, ok .owner p lt)) | inr e ↦ e ∙ i .out r l ];
   }
 
-  same-outside : (beyond : Bool) (p : ℕ) → p < g .prods → (c : Costs) → Risen (g .rules) c → ((r : ℕ) → r < g .rules → dearestVisit g k beyond p c r ≡ c r) → dearestVisit g k beyond p c ≡ c
-  same-outside beyond p lt c i q = fun-ext (λ r. elim (decLt r (g .rules)) [ yes l ↦ q r l | no l ↦ risen-kept beyond p lt c i .out r (omega arith) ∙ sym (i .out r (omega arith)) ])
-
   -- each change raises an entry
   each : (beyond : Bool) (p : ℕ) (c : Costs) (r : ℕ) → (dearestVisit g k beyond p c r ≡ c r) ⊎ (c r < dearestVisit g k beyond p c r)
   each beyond p c r = elim (decLt (c r) (dearestVisit g k beyond p c r)) [ yes l ↦ inr l | no l ↦ inl (omega (arith, dearest-up g k beyond p c r)) ]
 
   pub dearest-grows : (beyond : Bool) (p : ℕ) → p < g .prods → (c : Costs) → Risen (g .rules) c → (dearestVisit g k beyond p c ≡ c) ⊎ (sum (g .rules) c < sum (g .rules) (dearestVisit g k beyond p c))
   dearest-grows beyond p lt c i = elim (sum-grows (g .rules) c (dearestVisit g k beyond p c) (λ r. dearestVisit g k beyond p c r ≡ c r) (λ r q. sym q) (λ r _. each beyond p c r)) [
-    | inl q ↦ inl (same-outside beyond p lt c i q)
+    | inl q ↦ inl (fun-ext (λ r. elim (decLt r (g .rules)) [ yes l ↦ q r l | no l ↦ risen-kept beyond p lt c i .out r (omega arith) ∙ sym (i .out r (omega arith)) ]))
     | inr l ↦ inr l
   ]
 

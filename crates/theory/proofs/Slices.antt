@@ -74,7 +74,7 @@ pub record Sliceable {M S : Type 0} (step : ℕ → S → S) (view : M → S) (K
   pub held : (a b : M) → Keeps a b → Held a → Held b
   pub moves : (p : ℕ) → p < P → (a b : M) (x : Bool) → Held a → Visit p a x b → Moves step view Keeps (p ∷ []) a x b
 
--- where the next production is, and where it stays
+-- where the next production is
 next-up : (P : ℕ) (x : Bool) (j : Progress) → after P x j .next ≡ up P (j .next)
 next-up P x j = elim (tested (eqb (j .next + 1) P)) [ inl e ↦ rw e | inr e ↦ rw e ]
 
@@ -82,11 +82,8 @@ next-up P x j = elim (tested (eqb (j .next + 1) P)) [ inl e ↦ rw e | inr e ↦
 after-cases : (P : ℕ) (x : Bool) (j : Progress) → ((j .next + 1 ≡ P) × (after P x j ≡ ended (j .changed || x))) ⊎ ((j .next + 1 ≡ P → ⊥) × (after P x j ≡ record { next = j .next + 1; changed = j .changed || x; done = false }))
 after-cases P x j = elim (tested (eqb (j .next + 1) P)) [ inl e ↦ inl (eqb-true (j .next + 1) P e, rw e) | inr e ↦ inr (eqb-false (j .next + 1) P e, rw e) ]
 
-up-below : (P p : ℕ) → p < P → up P p < P
-up-below P p l = elim (tested (eqb (p + 1) P)) [ inl e ↦ rw e (omega arith) | inr e ↦ rw e (omega (arith, eqb-false (p + 1) P e)) ]
-
 pub after-below : (P : ℕ) (x : Bool) (j : Progress) → j .next < P → after P x j .next < P
-after-below P x j l = rw (next-up P x j) (up-below P (j .next) l)
+after-below P x j l = elim (after-cases P x j) [ inl e ↦ rw (e .1) (omega arith) | inr e ↦ rw (e .1) (omega (arith, e .0)) ]
 
 module _ {M S : Type 0} {step : ℕ → S → S} {view : M → S} {Keeps : M → M → Type 0} {P : ℕ} {Visit : ℕ → M → Bool → M → Type 0} (f : Sliceable step view Keeps P Visit) where
   -- the visits of a slice: in rising order, starting again at 0

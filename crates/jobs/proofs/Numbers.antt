@@ -3,7 +3,6 @@ use mathlib.Core.Bool.{Bool}
 use mathlib.Core.List.{List, []}
 use mathlib.Core.Path.{_≡_, refl, sym, ap, ap₂, subst}
 use Prim.Native.Nat.{ℕ}
-use lib.ListN.{length}
 use borrow.Author.Tests.{ne-eqb}
 use Rattle.theory.specs.Slices.{Progress, Slice, full, over, visit}
 use Rattle.grammar.specs.Flat.{Flat}
@@ -15,7 +14,7 @@ use Rattle.jobs.specs.Kinds.{kindOf, Visit, part, Alone}
 use Rattle.jobs.specs.Calls.{Workable}
 
 -- the kind's tables put back among all
-abbrev put : Kind → Tables → Lent → Tables
+abbrev pub put : Kind → Tables → Lent → Tables
 put first t l = tables (l .first) (l .empty) (t .follow) (t .productive) (t .cost) (t .reached)
 put (follow read) t l = tables (t .first) (t .empty) (l .first) (t .productive) (t .cost) (t .reached)
 put productive t l = tables (t .first) (t .empty) (t .follow) (l .first) (t .cost) (t .reached)
@@ -43,10 +42,11 @@ visit-put cost g p t a x b s = record {
   still = λ e. ap (put cost t) (s .still e);
 }
 
-slice-put : (k : Kind) (g : Flat) (t : Tables) {P n m : ℕ} {j i : Progress} {a d : Lent} → Slice (Alone k g) P n j a m i d → Slice (Visit k g) P n j (put k t a) m i (put k t d)
-slice-put k g t full = full
-slice-put k g t (over e) = over e
-slice-put k g t (visit {j = j} {a = a} {b = b} x e v s) = visit x e (visit-put k g (j .next) t a x b v) (slice-put k g t s)
+-- visits of one memory seen as visits of another
+pub slice-map : {M N : Type 0} {X : ℕ → M → Bool → M → Type 0} {Y : ℕ → N → Bool → N → Type 0} (f : M → N) → ((p : ℕ) (a : M) (x : Bool) (b : M) → X p a x b → Y p (f a) x (f b)) → {P n m : ℕ} {j i : Progress} {a d : M} → Slice X P n j a m i d → Slice Y P n j (f a) m i (f d)
+slice-map f h full = full
+slice-map f h (over e) = over e
+slice-map f h (visit {j = j} {a = a} {b = b} x e v s) = visit x e (h (j .next) a x b v) (slice-map f h s)
 
 module _ (n : ℕ) (g : Flat) (from : Reads) (t : Tables) (k : Kind) (is : kindOf n t ≡ k) (at : kindAt n from ≡ k) where
   ready : (l : Lent) → (Held k g (part k t []) → Held k g l) → (next : ℕ) → Workable (kindOf n t) g next (part (kindOf n t) t []) → Workable (kindAt n from) g next l
@@ -57,7 +57,7 @@ module _ (n : ℕ) (g : Flat) (from : Reads) (t : Tables) (k : Kind) (is : kindO
   made : (l d : Lent) → put k t l ≡ t → (P m v : ℕ) (j i : Progress) → Slice (Alone (kindAt n from) g) P m j l v i d → Slice (Visit (kindOf n t) g) P m j t v i (put k t d)
   made l d e P m v j i s =
       subst (λ z. Slice (Visit z g) P m j t v i (put k t d)) (sym is)
-      (subst (λ z. Slice (Visit k g) P m j z v i (put k t d)) e (slice-put k g t (subst (λ z. Slice (Alone z g) P m j l v i d) at s)))
+      (subst (λ z. Slice (Visit k g) P m j z v i (put k t d)) e (slice-map (put k t) (λ p a x b. visit-put k g p t a x b) (subst (λ z. Slice (Alone z g) P m j l v i d) at s)))
 
 module _ (n : ℕ) (g : Flat) (a e f r c h : List ℕ) where
   abbrev t : Tables

@@ -1,5 +1,5 @@
 -- What slices from cleared tables and a fresh job come to, for every kind.
-use mathlib.Core.List.{[]}
+use mathlib.Core.List.{List}
 use mathlib.Core.Path.{_≡_, refl, sym, _∙_, ap, subst}
 use Prim.Native.Nat.{ℕ, _<_}
 use native.Mathlib.Omega.{arith}
@@ -12,11 +12,11 @@ use Rattle.theory.specs.Slices.{Progress, fresh, Slice, full, over, visit, Slic
 use Rattle.grammar.specs.Flat.{Flat, denoted, price}
 use Rattle.grammar.specs.Well.{WellFormed}
 use Rattle.grammar.proofs.Denoted.{proper}
-use Rattle.engine.specs.First.{lent as firsts}
-use Rattle.engine.proofs.FirstMoving.{begun-inv as first-inv}
-use Rattle.engine.proofs.FollowMoving.{words-in}
+use Rattle.engine.specs.First.{Lent as Firsts, lent as firsts}
+use Rattle.engine.proofs.FirstMoving.{stepping as firstStepping, begun-inv as first-inv}
+use Rattle.engine.proofs.FollowMoving.{words-in, stepping as followStepping}
 use Rattle.engine.specs.Cost.{costsOf}
-use Rattle.engine.proofs.CostMoving.{row-column, costs-fit}
+use Rattle.engine.proofs.CostMoving.{row-column, rowStepping, costs-fit, costStepping}
 use Rattle.firsts.specs.Calls.{zeros as firstZeros}
 use Rattle.firsts.proofs.Calling.{zeros-held as first-held, zeros-marks, zeros-begun, settled-defined}
 use Rattle.follows.specs.Calls.{begun}
@@ -24,15 +24,40 @@ use Rattle.follows.proofs.Calling.{begun-held, begun-table, any-order, follow-d
 use Rattle.tables.specs.Sizes.{words}
 use Rattle.costs.specs.Calls.{zeros as rowZeros, unknown}
 use Rattle.costs.proofs.Filling.{zeros-row, zeros-held as row-held, unknown-costs, unknown-long, row-fill-defined, cost-fill-defined}
-use Rattle.engine.specs.Kinds.{Kind, first, follow, productive, cost}
-use Rattle.jobs.specs.Lent.{Tables, tables}
-use Rattle.jobs.specs.Kinds.{kindOf, Visit}
+use Rattle.jobs.specs.Kinds.{Tables, tables, Kind, first, follow, productive, cost, kindOf, Visit}
 use Rattle.jobs.specs.declared.Job.{Job}
 use Rattle.jobs.specs.Calls.{progressOf, Lends}
 use Rattle.jobs.specs.Slices.{freshJob, Cleared, Comes, Run, none, slice, between}
 use Rattle.jobs.proofs.Working.{kind-on}
-use Rattle.jobs.proofs.Slicing.{part-comes}
-use Rattle.engine.proofs.Instances.{alone}
+use Rattle.jobs.proofs.Slicing.{Lens, part-comes}
+
+-- the parts
+abbrev getFirst : Tables → Firsts
+getFirst t = firsts (t .first) (t .empty)
+
+abbrev putFirst : Tables → Firsts → Tables
+putFirst t x = tables (x .first) (x .empty) (t .follow) (t .productive) (t .cost) (t .reached)
+
+abbrev putFollow : Tables → List ℕ → Tables
+putFollow t x = tables (t .first) (t .empty) x (t .productive) (t .cost) (t .reached)
+
+abbrev putProductive : Tables → List ℕ → Tables
+putProductive t x = tables (t .first) (t .empty) (t .follow) x (t .cost) (t .reached)
+
+abbrev putCost : Tables → List ℕ → Tables
+putCost t x = tables (t .first) (t .empty) (t .follow) (t .productive) x (t .reached)
+
+lensFirst : Lens getFirst putFirst
+lensFirst = record { same = λ t. refl; twice = λ t x y. refl }
+
+lensFollow : Lens (λ t. t .follow) putFollow
+lensFollow = record { same = λ t. refl; twice = λ t x y. refl }
+
+lensProductive : Lens (λ t. t .productive) putProductive
+lensProductive = record { same = λ t. refl; twice = λ t x y. refl }
+
+lensCost : Lens (λ t. t .cost) putCost
+lensCost = record { same = λ t. refl; twice = λ t x y. refl }
 
 module _ (g : Flat) (w : WellFormed g) where
   some : 0 < length (g .owners)
@@ -47,22 +72,22 @@ module _ (g : Flat) (w : WellFormed g) where
   -- what slices of each kind come to, however the visits are divided into slices
   pub kind-comes : (k : Kind) (t : Tables) → Cleared k g t → {n : ℕ} {i : Progress} {d : Tables} → Slices (Visit k g) (length (g .owners)) n fresh t i d → Comes k g n i d
   kind-comes first t c {d = d} s =
-      let x = part-comes first g w (first-any-order (denoted g) (proper g w)) t (firstZeros g) c (first-held g) (zeros-marks g) (first-inv g w (firstZeros g) (zeros-begun g w .fit)) some s in
-      record { left = λ e. settled-defined g w (firsts (d .first) (d .empty)) (x .settles e); ends = x .ends; always = x .holds }
+      let x = part-comes getFirst putFirst lensFirst (firstStepping g w) (first-any-order (denoted g) (proper g w)) t (firstZeros g) c (first-held g) (zeros-marks g) (first-inv g w (firstZeros g) (zeros-begun g w .fit)) some s in
+      record { left = λ e. settled-defined g w (getFirst d) (x .settles e); ends = x .ends; always = x .holds }
   kind-comes (follow read) t c {d = d} s =
-      let x = part-comes (follow read) g w (any-order g w read (c .0)) t (firsts (begun g) []) (ap (λ z. firsts z []) (c .1)) (begun-held g w) (begun-table g w) (words-in g w read (begun g)) some s in
-      record { left = λ e. follow-defined g w read (c .0) (d .follow) (alone (x .settles e)); ends = x .ends; always = x .holds }
+      let x = part-comes (λ t. t .follow) putFollow lensFollow (followStepping g w read) (any-order g w read (c .0)) t (begun g) (c .1) (begun-held g w) (begun-table g w) (words-in g w read (begun g)) some s in
+      record { left = λ e. follow-defined g w read (c .0) (d .follow) (x .settles e); ends = x .ends; always = x .holds }
   kind-comes productive t c {d = d} s =
-      let x = part-comes productive g w (productive-any-order (denoted g) (proper g w)) t (firsts (rowZeros g) []) (ap (λ z. firsts z []) c) (row-held g) (zeros-row g) (row-column (g .rules) (rowZeros g)) some s in
+      let x = part-comes (λ t. t .productive) putProductive lensProductive (rowStepping g w) (productive-any-order (denoted g) (proper g w)) t (rowZeros g) c (row-held g) (zeros-row g) (row-column (g .rules) (rowZeros g)) some s in
       record {
-        left = λ e. row-fill-defined g (rowZeros g) (record { well = w; long = zeros-long g }) (rowZeros g) (ap (λ z. replicate z 0) (sym (zeros-long g))) (d .productive) (alone (x .settles e));
+        left = λ e. row-fill-defined g (rowZeros g) (record { well = w; long = zeros-long g }) (rowZeros g) (ap (λ z. replicate z 0) (sym (zeros-long g))) (d .productive) (x .settles e);
         ends = x .ends;
         always = x .holds;
       }
   kind-comes cost t c {d = d} s =
-      let x = part-comes cost g w (cost-any-order (denoted g) (price g) (proper g w)) t (firsts (unknown g) []) (ap (λ z. firsts z []) c) (unknown-long g) (unknown-costs g) unknown-fits some s in
+      let x = part-comes (λ t. t .cost) putCost lensCost (costStepping g w) (cost-any-order (denoted g) (price g) (proper g w)) t (unknown g) c (unknown-long g) (unknown-costs g) unknown-fits some s in
       record {
-        left = λ e. cost-fill-defined g (unknown g) (record { well = w; long = unknown-long g }) (unknown g) (ap (λ z. replicate z costUnknown) (sym (unknown-long g))) (d .cost) (alone (x .settles e));
+        left = λ e. cost-fill-defined g (unknown g) (record { well = w; long = unknown-long g }) (unknown g) (ap (λ z. replicate z costUnknown) (sym (unknown-long g))) (d .cost) (x .settles e);
         ends = x .ends;
         always = x .holds;
       }

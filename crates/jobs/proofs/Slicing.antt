@@ -1,63 +1,69 @@
--- Slices one after another on a kind's tables: a done job has left the fill's tables, and when a job is done.
+-- Slices one after another on lent tables: a done job has left the fill's tables, and when a job is done.
 use mathlib.Core.Bool.{Bool, true}
-use mathlib.Core.List.{[]}
-use mathlib.Core.Path.{_≡_, refl, sym, _∙_, ap, subst}
+use mathlib.Core.Path.{_≡_, sym, _∙_, ap, subst}
 use Prim.Native.Nat.{ℕ, _+_, _*_, _≤_, _<_}
-use lib.ListN.{length}
 use Rattle.theory.specs.Fills.{Settles}
 use Rattle.theory.specs.Rounds.{AnyOrder}
-use Rattle.theory.specs.Slices.{Progress, fresh, Slices, none, more}
+use Rattle.theory.proofs.Fills.{Filling}
+use Rattle.theory.specs.Slices.{Progress, fresh, Slices}
 use Rattle.theory.proofs.Slices.{Sliceable, done-settles, done-by, slices-hold}
-use Rattle.grammar.specs.Flat.{Flat}
-use Rattle.grammar.specs.Well.{WellFormed}
-use Rattle.engine.specs.First.{Lent}
-use Rattle.engine.specs.Kinds.{Kind, first, follow, productive, cost, Seen, view, makes, Keeps, Held, Became as KindBecame}
-use Rattle.engine.proofs.Instances.{stepping}
-use Rattle.jobs.specs.Lent.{Tables}
-use Rattle.jobs.specs.Kinds.{Became, Visit, part, Alone}
-use Rattle.jobs.proofs.Numbers.{put, slice-map}
+use Rattle.tables.specs.Call.{Stepped}
+use Rattle.tables.proofs.Stepping.{Stepping}
+use Rattle.jobs.specs.Kinds.{Tables, Made}
 
--- a visit among all the tables is one of the kind's alone
-apart : (k : Kind) (g : Flat) (p : ℕ) (a : Tables) (x : Bool) (b : Tables) → (Became k g p a b → KindBecame k g p (part k a []) (part k b [])) → (Became k g p a b → b ≡ put k a (part k b [])) → put k a (part k a []) ≡ a → Visit k g p a x b → Alone k g p (part k a []) x (part k b [])
-apart k g p a x b steps others same v = record {
-  became = steps (v .became);
-  told = λ e q. v .told e (others (v .became) ∙ ap (put k a) q ∙ same);
-  still = λ e. ap (λ z. part k z []) (v .still e);
-}
+-- a part of the tables, seen and put back
+pub record Lens {A : Type 0} (get : Tables → A) (put : Tables → A → Tables) : Type 0 where
+  pub same : (t : Tables) → t ≡ put t (get t)
+  pub twice : (t : Tables) (x y : A) → put (put t x) y ≡ put t y
 
-visit-part : (k : Kind) (g : Flat) (p : ℕ) (a : Tables) (x : Bool) (b : Tables) → Visit k g p a x b → Alone k g p (part k a []) x (part k b [])
-visit-part first g p a x b = apart first g p a x b (λ s. s .step) (λ s. s .others) refl
-visit-part (follow read) g p a x b = apart (follow read) g p a x b (λ s. record { table = s .step; row = refl }) (λ s. s .others) refl
-visit-part productive g p a x b = apart productive g p a x b (λ s. record { table = s .step; row = refl }) (λ s. s .others) refl
-visit-part cost g p a x b = apart cost g p a x b (λ s. record { table = s .step; row = refl }) (λ s. s .others) refl
+-- what slices of n visits together come to on the part: if the job is done no visit changes it, when it is done, and what it shows is true
+pub record Comes {A S : Type 0} (step : ℕ → S → S) (see : A → S) (Keeps : A → A → Type 0) (P bound : ℕ) (Holds : S → Type 0) (zeros : A) (n : ℕ) (i : Progress) (d : A) : Type 0 where
+  pub settles : i .done ≡ true → Settles step see Keeps P zeros d
+  pub ends : (bound + 1) * P ≤ n → i .done ≡ true
+  pub holds : Holds (see d)
 
-slices-part : (k : Kind) (g : Flat) {P n : ℕ} {j i : Progress} {a d : Tables} → Slices (Visit k g) P n j a i d → Slices (Alone k g) P n j (part k a []) i (part k d [])
-slices-part k g none = none
-slices-part k g (more n e s r) = more n e (slice-map (λ t. part k t []) (visit-part k g) s) (slices-part k g r)
+module _ {A S : Type 0} {step : ℕ → S → S} {see : A → S} {Keeps : A → A → Type 0} {P : ℕ} {Held : A → Type 0} {Became : ℕ → A → A → Type 0} (get : Tables → A) (put : Tables → A → Tables) (l : Lens get put) (k : Stepping step see Keeps P Held Became) where
+  -- the part is kept so, and the rest is as it was
+  abbrev Kept : Tables → Tables → Type 0
+  Kept a b = Made (Keeps (get a) (get b)) b (put a (get b))
 
--- what slices of n visits together come to: if the job is done no visit changes anything, when it is done, and what the tables show is true
-pub record Comes (k : Kind) (g : Flat) (bound : ℕ) (Holds : Seen k → Type 0) (zeros : Lent) (n : ℕ) (i : Progress) (d : Lent) : Type 0 where
-  pub settles : i .done ≡ true → Settles (makes k g) (view k g) (Keeps k g) (length (g .owners)) zeros d
-  pub ends : (bound + 1) * length (g .owners) ≤ n → i .done ≡ true
-  pub holds : Holds (view k g d)
+  abbrev Visits : ℕ → Tables → Bool → Tables → Type 0
+  Visits p a x b = Stepped (λ d. Made (Became p (get a) (get d)) d (put a (get d))) a x b
 
-module _ (k : Kind) (g : Flat) (w : WellFormed g) where
-  abbrev sliceable : Sliceable (makes k g) (view k g) (Keeps k g) (length (g .owners)) (Alone k g)
+  abbrev filling : Filling step (λ t. see (get t)) Kept P
+  filling = record {
+    Inv = k .filling .Inv;
+    top = k .filling .top;
+    climb = k .filling .climb;
+    same = λ a. record { step = k .filling .same (get a); others = l .same a };
+    then = λ a b d x y. record { step = k .filling .then (get a) (get b) (get d) (x .step) (y .step); others = y .others ∙ ap (λ t. put t (get d)) (x .others) ∙ l .twice a (get b) (get d) };
+  }
+
+  -- a visit that leaves what the part shows leaves all
+  pub quiet : (p : ℕ) → p < P → (a b : Tables) → Held (get a) → Became p (get a) (get b) → b ≡ put a (get b) → see (get b) ≡ see (get a) → b ≡ a
+  quiet p lt a b h s o q = o ∙ ap (put a) (k .unique p (get a) (get b) (get a) s (k .stays p lt (get a) h (sym (k .shows p lt (get a) (get b) s) ∙ q))) ∙ sym (l .same a)
+
+  abbrev pub sliceable : Sliceable step (λ t. see (get t)) Kept P Visits
   sliceable = record {
-    filling = stepping k g w .filling;
-    Held = Held k g;
-    held = stepping k g w .held;
+    filling = filling;
+    Held = λ t. Held (get t);
+    held = λ a b s h. k .held (get a) (get b) (s .step) h;
     moves = λ p lt a b x h v. record {
-      ran = stepping k g w .shows p lt a b (v .became);
-      keeps = stepping k g w .spares p lt a b (v .became);
-      told = λ e q. v .told e (stepping k g w .unique p a b a (v .became) (stepping k g w .stays p lt a h (sym (stepping k g w .shows p lt a b (v .became)) ∙ q)));
+      ran = k .shows p lt (get a) (get b) (v .became .step);
+      keeps = record { step = k .spares p lt (get a) (get b) (v .became .step); others = v .became .others };
+      told = λ e q. v .told e (quiet p lt a b h (v .became .step) (v .became .others) q);
       still = v .still;
     };
   }
 
   -- from cleared tables
-  pub part-comes : {bound : ℕ} {cleared : Seen k} {Holds Exact : Seen k → Type 0} → AnyOrder (makes k g) cleared (length (g .owners)) bound Holds Exact → (t : Tables) (zeros : Lent) → part k t [] ≡ zeros → Held k g zeros → view k g zeros ≡ cleared → stepping k g w .filling .Inv (view k g zeros) → 0 < length (g .owners)
-      → {n : ℕ} {i : Progress} {d : Tables} → Slices (Visit k g) (length (g .owners)) n fresh t i d → Comes k g bound Holds zeros n i (part k d [])
-  part-comes any t zeros is held shown inv some {n} {i} {d} s =
-      let x : Slices (Alone k g) (length (g .owners)) n fresh zeros i (part k d []) = subst (λ z. Slices (Alone k g) (length (g .owners)) n fresh z i (part k d [])) is (slices-part k g s) in
-      record { settles = done-settles sliceable any zeros held shown inv some x; ends = done-by sliceable any zeros held shown inv some x; holds = slices-hold sliceable any zeros held shown inv some x }
+  module _ {bound : ℕ} {cleared : S} {Holds Exact : S → Type 0} (any : AnyOrder step cleared P bound Holds Exact) (start : Tables) (zeros : A) (is : get start ≡ zeros) (begins : Held zeros) (shown : see zeros ≡ cleared) (inv : k .filling .Inv (see zeros)) (some : 0 < P) {n : ℕ} {i : Progress} {d : Tables} (s : Slices Visits P n fresh start i d) where
+    part-done : i .done ≡ true → Settles step (λ t. see (get t)) Kept P start d
+    part-done = done-settles sliceable any start (subst Held (sym is) begins) (ap see is ∙ shown) (subst (λ z. k .filling .Inv (see z)) (sym is) inv) some s
+
+    pub part-comes : Comes step see Keeps P bound Holds zeros n i (get d)
+    part-comes = record {
+      settles = λ e. let x = part-done e in subst (λ z. Settles step see Keeps P z (get d)) is (record { visits = x .visits; valid = x .valid; ran = x .ran; keeps = x .keeps .step; rest = x .rest });
+      ends = done-by sliceable any start (subst Held (sym is) begins) (ap see is ∙ shown) (subst (λ z. k .filling .Inv (see z)) (sym is) inv) some s;
+      holds = slices-hold sliceable any start (subst Held (sym is) begins) (ap see is ∙ shown) (subst (λ z. k .filling .Inv (see z)) (sym is) inv) some s;
+    }

@@ -7,7 +7,7 @@ use Rattle.grammar.specs.Flat.{Flat}
 use Rattle.jobs.specs.declared.Job.{Job as Inner}
 use Rattle.jobs.specs.declared.Sliced.{Sliced}
 use Rattle.jobs.specs.declared.Sliced.the-variants.{Made, Refused}
-use Rattle.jobs.specs.Lent.{Tables}
+use Rattle.jobs.specs.Kinds.{Tables}
 use Rattle.jobs.specs.Calls.{SliceOf}
 use Rattle.boltmarrow.specs.declared.Job.{Job}
 use Rattle.boltmarrow.specs.declared.Answer.{Answer}

@@ -1,6 +1,6 @@
 -- What the returns of a slice owe, from what `check` and the tests on the way answered.
 use mathlib.Core.Bool.{Bool, true, false, cond, _||_}
-use mathlib.Core.List.{List, []}
+use mathlib.Core.List.{List}
 use mathlib.Core.Path.{_≡_, refl, sym, _∙_, ap, subst}
 use Prim.Native.Nat.{ℕ, _*_, _<_}
 use native.Mathlib.Omega.{arith}
@@ -26,9 +26,7 @@ use Rattle.engine.specs.First.{lent as firsts, Held as FirstHeld}
 use Rattle.engine.specs.Follow.{reads, lent}
 use Rattle.follows.specs.Calls.{lentWrong, LentWrong}
 use Rattle.jobs.specs.declared.Job.{Job}
-use Rattle.engine.specs.Kinds.{Kind, first, follow, productive, cost, Held, Reading}
-use Rattle.jobs.specs.Lent.{Tables, tables, readOf}
-use Rattle.jobs.specs.Kinds.{kindOf, kindWrong, Visit, part}
+use Rattle.jobs.specs.Kinds.{Tables, tables, readOf, first, follow, productive, cost, kindOf, kindWrong, FollowHeld, Held, Visit}
 use Rattle.jobs.specs.Calls.{progress, progressOf, jobAt, jobWrong, sliceDue, lends, Works, Workable}
 
 -- `wrong`
@@ -55,10 +53,6 @@ pub record Words (t : Tables) : Type 0 where
   pub follow : Small (t .follow)
   pub productive : Small (t .productive)
 
--- the kind's tables are of their lengths, and so are those that are read
-abbrev Holds : Kind → Flat → Tables → Type 0
-Holds k g t = Held k g (part k t []) × Reading k g
-
 one-row : (n : ℕ) → words n ≡ 1 * words n
 one-row n = omega arith
 
@@ -70,22 +64,26 @@ module _ (g : Flat) (t : Tables) (small : Words t) where
     empty = record { len = row-long (g .rules) (t .empty) (s .1) ∙ one-row (g .rules); small = small .empty };
   }
 
-  follow-held : lentWrong (g .rules) (length (g .costs)) (lent (t .follow) (readOf t)) ≡ false → Holds (follow (readOf t)) g t
+  follow-held : lentWrong (g .rules) (length (g .costs)) (lent (t .follow) (readOf t)) ≡ false → FollowHeld g (readOf t) (t .follow)
   follow-held e =
       let s = or-none (tableWrong (g .rules) (length (g .costs)) (t .follow)) _ e in
       let u = or-none (tableWrong (g .rules) (length (g .costs)) (t .first)) _ (s .1) in
       let v = or-none (rowWrong (g .rules) (t .empty)) (rowWrong (g .rules) (t .reached)) (u .1) in
-      (record { len = table-long (g .rules) (length (g .costs)) (t .follow) (s .0); small = small .follow }, record { firsts = firsts-held (rw (u .0, v .0)); reached = row-long (g .rules) (t .reached) (v .1) })
+      record {
+        firsts = firsts-held (rw (u .0, v .0));
+        reached = row-long (g .rules) (t .reached) (v .1);
+        follows = record { len = table-long (g .rules) (length (g .costs)) (t .follow) (s .0); small = small .follow };
+      }
 
-  held-right : (n : ℕ) → kindWrong (kindOf n t) (g .rules) (length (g .costs)) t ≡ false → Holds (kindOf n t) g t
+  held-right : (n : ℕ) → kindWrong (kindOf n t) (g .rules) (length (g .costs)) t ≡ false → Held (kindOf n t) g t
   held-right n e = go (eqb n 0) (eqb n 2) (eqb n 3) e
     where
       go : (q0 q2 q3 : Bool) → kindWrong (cond q0 first (cond q2 (follow (readOf t)) (cond q3 productive cost))) (g .rules) (length (g .costs)) t ≡ false
-          → Holds (cond q0 first (cond q2 (follow (readOf t)) (cond q3 productive cost))) g t
-      go true q2 q3 k = (firsts-held k, tt)
+          → Held (cond q0 first (cond q2 (follow (readOf t)) (cond q3 productive cost))) g t
+      go true q2 q3 k = firsts-held k
       go false true q3 k = follow-held k
-      go false false true k = (record { len = row-long (g .rules) (t .productive) k ∙ one-row (g .rules); small = small .productive }, tt)
-      go false false false k = (numbers-long (g .rules) (t .cost) k, tt)
+      go false false true k = record { len = row-long (g .rules) (t .productive) k ∙ one-row (g .rules); small = small .productive }
+      go false false false k = numbers-long (g .rules) (t .cost) k
 
 -- `sliced`
 module _ (g : Flat) (n : ℕ) (j : Job) (t : Tables) (c : Checked) (is : checkedIs c ≡ checkOf g) (e : c ≡ Well) (w : ℕ) (ew : w ≡ j .next .0) where
@@ -101,12 +99,11 @@ module _ (g : Flat) (n : ℕ) (j : Job) (t : Tables) (c : Checked) (is : checked
       slice-7 q = call-refused 7 (after-well g c _ is e ∙ rw (← ew, k, ← ex, q))
 
       module _ (q : x ≡ false) where
-        pub slice-workable : Words t → Workable (kindOf (j .kind) t) g (j .next .0) (part (kindOf (j .kind) t) t [])
-        slice-workable s = let h = held-right g t s (j .kind) (sym ex ∙ q) in record {
+        pub slice-workable : Words t → Workable (kindOf (j .kind) t) g (j .next .0) t
+        slice-workable s = record {
           well = well g (sym is ∙ ap checkedIs e);
           below = subst (λ z. z < length (g .owners)) ew (leb-false (length (g .owners)) w (or-none (ltb 4 (j .kind)) _ (or-none (eqb (j .kind) 1) _ k .1) .1));
-          held = h .0;
-          reads = h .1;
+          held = held-right g t s (j .kind) (sym ex ∙ q);
         }
 
         pub slice-does : (made next : ℕ) (changed done : Bool) (to : Tables) → Slice (Visit (kindOf (j .kind) t) g) (length (g .owners)) n (progressOf j) t made (progress next changed done) to

@@ -17,9 +17,7 @@ use Rattle.engine.proofs.CostMoving.{costs-words}
 use Rattle.jobs.specs.declared.Job.{Job}
 use Rattle.jobs.specs.declared.Sliced.{Sliced}
 use Rattle.jobs.specs.declared.Sliced.the-variants.{Made as Made′, Refused}
-use Rattle.engine.specs.Kinds.{Kind, first, follow, productive, cost}
-use Rattle.jobs.specs.Lent.{Tables, tables}
-use Rattle.jobs.specs.Kinds.{kindOf, Became, Visit}
+use Rattle.jobs.specs.Kinds.{Tables, tables, Kind, first, follow, productive, cost, kindOf, Became, Visit}
 use Rattle.jobs.specs.Calls.{slicedIs, jobAt, sliceDue, Lends, lends, Works, SliceOf}
 
 made-one : (k : Kind) (g : Flat) (p : ℕ) (a b d : Tables) → Became k g p a b → Became k g p a d → b ≡ d

@@ -24,9 +24,7 @@ use Rattle.follows.proofs.Calling.{begun-held, begun-table, any-order, follow-d
 use Rattle.tables.specs.Sizes.{words}
 use Rattle.costs.specs.Calls.{zeros as rowZeros, unknown}
 use Rattle.costs.proofs.Filling.{zeros-row, zeros-held as row-held, unknown-costs, unknown-long, row-fill-defined, cost-fill-defined}
-use Rattle.engine.specs.Kinds.{Kind, first, follow, productive, cost}
-use Rattle.jobs.specs.Lent.{Tables, tables}
-use Rattle.jobs.specs.Kinds.{kindOf, Visit}
+use Rattle.jobs.specs.Kinds.{Tables, tables, Kind, first, follow, productive, cost, kindOf, Visit}
 use Rattle.jobs.specs.declared.Job.{Job}
 use Rattle.jobs.specs.Calls.{progressOf, Lends}
 use Rattle.jobs.specs.Slices.{freshJob, Cleared, Comes, Run, none, slice, between}

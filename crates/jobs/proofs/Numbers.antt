@@ -1,93 +1,83 @@
--- Which kind a number means: what the loop over its tables asks, and what its visits are among all the tables.
-use mathlib.Core.Bool.{Bool}
-use mathlib.Core.List.{List, []}
-use mathlib.Core.Path.{_≡_, refl, sym, ap, ap₂, subst}
+-- Which kind a number means: what its step asks, and what it leaves among all the tables.
+use mathlib.Core.Bool.{Bool, false, false≢true}
+use mathlib.Core.List.{List}
+use mathlib.Core.Path.{_≡_, refl, sym, ap, subst}
 use Prim.Native.Nat.{ℕ}
 use lib.ListN.{length}
 use borrow.Author.Tests.{ne-eqb}
-use Rattle.theory.specs.Slices.{Progress, Slice, full, over, visit}
 use Rattle.grammar.specs.Flat.{Flat}
-use Rattle.engine.specs.First.{Lent, lent}
-use Rattle.engine.specs.Follow.{Reads}
-use Rattle.engine.specs.Kinds.{Kind, first, follow, productive, cost, kindAt, Held}
-use Rattle.jobs.specs.Lent.{Tables, tables, readOf}
-use Rattle.jobs.specs.Kinds.{kindOf, Visit, part, Alone}
-use Rattle.jobs.specs.Calls.{Workable}
+use Rattle.tables.specs.Call.{Stepped}
+use Rattle.engine.specs.First.{lent as firsts, Ready as FirstReady, FirstBecame}
+use Rattle.engine.specs.Follow.{FollowBecame, StepReady as FollowReady}
+use Rattle.engine.specs.Productive.{RowReady, ProductiveBecame}
+use Rattle.engine.specs.Cost.{Lowerable, Lowers}
+use Rattle.jobs.specs.Kinds.{Tables, tables, readOf, Kind, first, follow, productive, cost, kindOf, Visit, Ready}
 
--- the kind's tables put back among all
-abbrev put : Kind → Tables → Lent → Tables
-put first t l = tables (l .first) (l .empty) (t .follow) (t .productive) (t .cost) (t .reached)
-put (follow read) t l = tables (t .first) (t .empty) (l .first) (t .productive) (t .cost) (t .reached)
-put productive t l = tables (t .first) (t .empty) (t .follow) (l .first) (t .cost) (t .reached)
-put cost t l = tables (t .first) (t .empty) (t .follow) (t .productive) (l .first) (t .reached)
-
-visit-put : (k : Kind) (g : Flat) (p : ℕ) (t : Tables) (a : Lent) (x : Bool) (b : Lent) → Alone k g p a x b → Visit k g p (put k t a) x (put k t b)
-visit-put first g p t a x b s = record {
-  became = record { step = s .became; others = refl };
-  told = λ e q. s .told e (ap (λ (z : Tables). lent (z .first) (z .empty)) q);
-  still = λ e. ap (put first t) (s .still e);
-}
-visit-put (follow read) g p t a x b s = record {
-  became = record { step = s .became .table; others = refl };
-  told = λ e q. s .told e (ap₂ lent (ap (λ (z : Tables). z .follow) q) (s .became .row));
-  still = λ e. ap (put (follow read) t) (s .still e);
-}
-visit-put productive g p t a x b s = record {
-  became = record { step = s .became .table; others = refl };
-  told = λ e q. s .told e (ap₂ lent (ap (λ (z : Tables). z .productive) q) (s .became .row));
-  still = λ e. ap (put productive t) (s .still e);
-}
-visit-put cost g p t a x b s = record {
-  became = record { step = s .became .table; others = refl };
-  told = λ e q. s .told e (ap₂ lent (ap (λ (z : Tables). z .cost) q) (s .became .row));
-  still = λ e. ap (put cost t) (s .still e);
-}
-
-slice-put : (k : Kind) (g : Flat) (t : Tables) {P n m : ℕ} {j i : Progress} {a d : Lent} → Slice (Alone k g) P n j a m i d → Slice (Visit k g) P n j (put k t a) m i (put k t d)
-slice-put k g t full = full
-slice-put k g t (over e) = over e
-slice-put k g t (visit {j = j} {a = a} {b = b} x e v s) = visit x e (visit-put k g (j .next) t a x b v) (slice-put k g t s)
-
-module _ (n : ℕ) (g : Flat) (from : Reads) (t : Tables) (k : Kind) (is : kindOf n t ≡ k) (at : kindAt n from ≡ k) where
-  ready : (l : Lent) → (Held k g (part k t []) → Held k g l) → (next : ℕ) → Workable (kindOf n t) g next (part (kindOf n t) t []) → Workable (kindAt n from) g next l
-  ready l h next w =
-      let y = subst (λ z. Workable z g next (part z t [])) is w in
-      subst (λ z. Workable z g next l) (sym at) (record { well = y .well; below = y .below; held = h (y .held); reads = y .reads })
-
-  made : (l d : Lent) → put k t l ≡ t → (P m v : ℕ) (j i : Progress) → Slice (Alone (kindAt n from) g) P m j l v i d → Slice (Visit (kindOf n t) g) P m j t v i (put k t d)
-  made l d e P m v j i s =
-      subst (λ z. Slice (Visit z g) P m j t v i (put k t d)) (sym is)
-      (subst (λ z. Slice (Visit k g) P m j z v i (put k t d)) e (slice-put k g t (subst (λ z. Slice (Alone z g) P m j l v i d) at s)))
-
-module _ (n : ℕ) (g : Flat) (a e f r c h : List ℕ) where
+module _ (n : ℕ) (g : Flat) (p : ℕ) (a e f r c h : List ℕ) where
   abbrev t : Tables
   t = tables a e f r c h
 
-  module _ (q : n ≡ 2) (b : List ℕ) where
-    pub ready-follow : (next : ℕ) → Workable (kindOf n t) g next (part (kindOf n t) t []) → Workable (kindAt n (readOf t)) g next (lent f b)
-    ready-follow = ready n g (readOf t) t (follow (readOf t)) (ap (λ z. kindOf z t) q) (ap (λ z. kindAt z (readOf t)) q) (lent f b) (λ x. x)
+  ready : (k : Kind) → kindOf n t ≡ k → Ready (kindOf n t) g p t → Ready k g p t
+  ready k is x = subst (λ z. Ready z g p t) is x
 
-    pub made-follow : (x y : List ℕ) (P m v : ℕ) (j i : Progress) → Slice (Alone (kindAt n (readOf t)) g) P m j (lent f b) v i (lent x y) → Slice (Visit (kindOf n t) g) P m j t v i (tables a e x r c h)
-    made-follow x y = made n g (readOf t) t (follow (readOf t)) (ap (λ z. kindOf z t) q) (ap (λ z. kindAt z (readOf t)) q) (lent f b) (lent x y) refl
+  visited : (k : Kind) → kindOf n t ≡ k → (x : Bool) (b : Tables) → Visit k g p t x b → Visit (kindOf n t) g p t x b
+  visited k is x b v = subst (λ z. Visit z g p t x b) (sym is) v
 
-  module _ (from : Reads) where
-    module _ (q : n ≡ 0) where
-      pub ready-first : (next : ℕ) → Workable (kindOf n t) g next (part (kindOf n t) t []) → Workable (kindAt n from) g next (lent a e)
-      ready-first = ready n g from t first (ap (λ z. kindOf z t) q) (ap (λ z. kindAt z from) q) (lent a e) (λ x. x)
+  module _ (q : n ≡ 0) where
+    is-first : kindOf n t ≡ first
+    is-first = ap (λ z. kindOf z t) q
 
-      pub made-first : (x y : List ℕ) (P m v : ℕ) (j i : Progress) → Slice (Alone (kindAt n from) g) P m j (lent a e) v i (lent x y) → Slice (Visit (kindOf n t) g) P m j t v i (tables x y f r c h)
-      made-first x y = made n g from t first (ap (λ z. kindOf z t) q) (ap (λ z. kindAt z from) q) (lent a e) (lent x y) refl
+    pub ready-first : Ready (kindOf n t) g p t → FirstReady g p (firsts a e)
+    ready-first x = let y = ready first is-first x in record { well = y .well; isProd = y .isProd; held = y .held }
 
-    module _ (q : n ≡ 3) (b : List ℕ) where
-      pub ready-row : (next : ℕ) → Workable (kindOf n t) g next (part (kindOf n t) t []) → Workable (kindAt n from) g next (lent r b)
-      ready-row = ready n g from t productive (ap (λ z. kindOf z t) q) (ap (λ z. kindAt z from) q) (lent r b) (λ x. x)
+    pub made-first : (x : Bool) (a′ e′ : List ℕ) → Stepped (FirstBecame g p (firsts a e)) (firsts a e) x (firsts a′ e′) → Visit (kindOf n t) g p t x (tables a′ e′ f r c h)
+    made-first x a′ e′ s = visited first is-first x (tables a′ e′ f r c h) (record {
+      became = record { step = s .became; others = refl };
+      told = λ k z. s .told k (ap (λ y. firsts (y .first) (y .empty)) z);
+      still = λ k. ap (λ y. tables (y .first) (y .empty) f r c h) (s .still k);
+    })
 
-      pub made-row : (x y : List ℕ) (P m v : ℕ) (j i : Progress) → Slice (Alone (kindAt n from) g) P m j (lent r b) v i (lent x y) → Slice (Visit (kindOf n t) g) P m j t v i (tables a e f x c h)
-      made-row x y = made n g from t productive (ap (λ z. kindOf z t) q) (ap (λ z. kindAt z from) q) (lent r b) (lent x y) refl
+  module _ (q : n ≡ 2) where
+    is-follow : kindOf n t ≡ follow (readOf t)
+    is-follow = ap (λ z. kindOf z t) q
 
-    module _ (q0 : n ≡ 0 → ⊥) (q2 : n ≡ 2 → ⊥) (q3 : n ≡ 3 → ⊥) (b : List ℕ) where
-      pub ready-cost : (next : ℕ) → Workable (kindOf n t) g next (part (kindOf n t) t []) → Workable (kindAt n from) g next (lent c b)
-      ready-cost = ready n g from t cost (rw (ne-eqb n 0 q0, ne-eqb n 2 q2, ne-eqb n 3 q3)) (rw (ne-eqb n 0 q0, ne-eqb n 2 q2, ne-eqb n 3 q3)) (lent c b) (λ x. x)
+    pub ready-follow : Ready (kindOf n t) g p t → FollowReady g p false (readOf t) f
+    ready-follow x = let y = ready (follow (readOf t)) is-follow x in record {
+      ready = record { first = record { well = y .well; isProd = y .isProd; held = y .held .firsts }; reached = y .held .reached; follows = y .held .follows };
+      feeds = λ k. absurd (false≢true k);
+    }
 
-      pub made-cost : (x y : List ℕ) (P m v : ℕ) (j i : Progress) → Slice (Alone (kindAt n from) g) P m j (lent c b) v i (lent x y) → Slice (Visit (kindOf n t) g) P m j t v i (tables a e f r x h)
-      made-cost x y = made n g from t cost (rw (ne-eqb n 0 q0, ne-eqb n 2 q2, ne-eqb n 3 q3)) (rw (ne-eqb n 0 q0, ne-eqb n 2 q2, ne-eqb n 3 q3)) (lent c b) (lent x y) refl
+    pub made-follow : (x : Bool) (f′ : List ℕ) → Stepped (FollowBecame g (readOf t) p f) f x f′ → Visit (kindOf n t) g p t x (tables a e f′ r c h)
+    made-follow x f′ s = visited (follow (readOf t)) is-follow x (tables a e f′ r c h) (record {
+      became = record { step = s .became; others = refl };
+      told = λ k z. s .told k (ap (λ y. y .follow) z);
+      still = λ k. ap (λ y. tables a e y r c h) (s .still k);
+    })
+
+  module _ (q : n ≡ 3) where
+    is-row : kindOf n t ≡ productive
+    is-row = ap (λ z. kindOf z t) q
+
+    pub ready-row : Ready (kindOf n t) g p t → RowReady g p r
+    ready-row x = let y = ready productive is-row x in record { well = y .well; isProd = y .isProd; held = y .held }
+
+    pub made-row : (x : Bool) (r′ : List ℕ) → Stepped (ProductiveBecame g p r) r x r′ → Visit (kindOf n t) g p t x (tables a e f r′ c h)
+    made-row x r′ s = visited productive is-row x (tables a e f r′ c h) (record {
+      became = record { step = s .became; others = refl };
+      told = λ k z. s .told k (ap (λ y. y .productive) z);
+      still = λ k. ap (λ y. tables a e f y c h) (s .still k);
+    })
+
+  module _ (q0 : n ≡ 0 → ⊥) (q2 : n ≡ 2 → ⊥) (q3 : n ≡ 3 → ⊥) where
+    is-cost : kindOf n t ≡ cost
+    is-cost = rw (ne-eqb n 0 q0, ne-eqb n 2 q2, ne-eqb n 3 q3)
+
+    pub ready-cost : Ready (kindOf n t) g p t → (read : List Bool) → length read ≡ 512 → Lowerable g p c read
+    ready-cost x read l = let y = ready cost is-cost x in record { ready = record { well = y .well; isProd = y .isProd; long = y .held }; long = l }
+
+    pub made-cost : (read : List Bool) (x late : Bool) (c′ : List ℕ) (read′ : List Bool) → Lowers g p c read x late c′ read′ → Visit (kindOf n t) g p t x (tables a e f r c′ h)
+    made-cost read x late c′ read′ w = let s = w .steps in visited cost is-cost x (tables a e f r c′ h) (record {
+      became = record { step = s .became; others = refl };
+      told = λ k z. s .told k (ap (λ y. y .cost) z);
+      still = λ k. ap (λ y. tables a e f r y h) (s .still k);
+    })

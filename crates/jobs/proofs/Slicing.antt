@@ -9,8 +9,7 @@ use Rattle.theory.specs.Slices.{Progress, fresh, Slices}
 use Rattle.theory.proofs.Slices.{Sliceable, done-settles, done-by, slices-hold}
 use Rattle.tables.specs.Call.{Stepped}
 use Rattle.tables.proofs.Stepping.{Stepping}
-use Rattle.jobs.specs.Lent.{Tables}
-use Rattle.jobs.specs.Kinds.{Made}
+use Rattle.jobs.specs.Kinds.{Tables, Made}
 
 -- a part of the tables, seen and put back
 pub record Lens {A : Type 0} (get : Tables → A) (put : Tables → A → Tables) : Type 0 where

@@ -1,6 +1,5 @@
 -- Visits one after another: where the job stands after each, and what the loop over them owes.
-use mathlib.Core.Bool.{Bool, true, false, not, cond, _&&_, _||_, false≢true}
-use mathlib.Core.List.{List}
+use mathlib.Core.Bool.{Bool, true, false, not, cond, _&&_, _||_}
 use mathlib.Core.Path.{_≡_, refl, sym, _∙_, ap, subst}
 use Prim.Native.Nat.{ℕ, suc, _+_, _≤_, _<_}
 use native.Mathlib.Numerals.{add-one}
@@ -13,11 +12,7 @@ use Rattle.theory.proofs.Bools.{and-split}
 use Rattle.theory.specs.Slices.{Progress, after, Slice, full}
 use Rattle.theory.proofs.Slices.{slice-append, slice-stop, after-below}
 use Rattle.grammar.specs.Flat.{Flat}
-use Rattle.engine.specs.First.{Lent}
-use Rattle.engine.specs.Kinds.{Kind, first, follow, productive, cost, Keeps, Ready, Steps}
-use Rattle.engine.proofs.Instances.{stepping, table-long, row-same}
-use Rattle.jobs.specs.Lent.{Tables, readOf}
-use Rattle.jobs.specs.Kinds.{kindOf, Became, Visit, Alone}
+use Rattle.jobs.specs.Kinds.{Tables, readOf, Kind, first, follow, productive, cost, kindOf, Held, Became, Visit, Ready}
 use Rattle.jobs.specs.Calls.{progress, Workable}
 
 -- `moved`
@@ -32,7 +27,64 @@ module _ (P next w : ℕ) (changed got : Bool) (ew : w ≡ next) where
 pub more-left : (made n : ℕ) (over : Bool) → (ltb made n && not over) ≡ true → made < n
 more-left made n over e = ltb-true made n (and-split (ltb made n) _ e .0)
 
--- a visit keeps the kind: FOLLOW reads what it read
+-- a visit keeps the kind's tables of their lengths
+pub held-on : (k : Kind) (g : Flat) (p : ℕ) (a : Tables) (x : Bool) (b : Tables) → Held k g a → Visit k g p a x b → Held k g b
+held-on first g p a x b h v = record { first = v .became .step .first .sized; empty = v .became .step .empty .sized }
+held-on (follow read) g p a x b h v = record { firsts = h .firsts; reached = h .reached; follows = v .became .step .sized }
+held-on productive g p a x b h v = v .became .step .sized
+held-on cost g p a x b h v = v .became .step .long ∙ h
+
+-- every table is as long as it was
+pub record Long (a b : Tables) : Type 0 where
+  pub first : length (b .first) ≡ length (a .first)
+  pub empty : length (b .empty) ≡ length (a .empty)
+  pub follow : length (b .follow) ≡ length (a .follow)
+  pub productive : length (b .productive) ≡ length (a .productive)
+  pub cost : length (b .cost) ≡ length (a .cost)
+
+long-same : (a : Tables) → Long a a
+long-same a = record { first = refl; empty = refl; follow = refl; productive = refl; cost = refl }
+
+long-then : (a b d : Tables) → Long a b → Long b d → Long a d
+long-then a b d x y = record {
+  first = y .first ∙ x .first;
+  empty = y .empty ∙ x .empty;
+  follow = y .follow ∙ x .follow;
+  productive = y .productive ∙ x .productive;
+  cost = y .cost ∙ x .cost;
+}
+
+long-on : (k : Kind) (g : Flat) (p : ℕ) (a : Tables) (x : Bool) (b : Tables) → Held k g a → Visit k g p a x b → Long a b
+long-on first g p a x b h v = record {
+  first = v .became .step .first .sized .len ∙ sym (h .first .len);
+  empty = v .became .step .empty .sized .len ∙ sym (h .empty .len);
+  follow = ap (λ (z : Tables). length (z .follow)) (v .became .others);
+  productive = ap (λ (z : Tables). length (z .productive)) (v .became .others);
+  cost = ap (λ (z : Tables). length (z .cost)) (v .became .others);
+}
+long-on (follow read) g p a x b h v = record {
+  first = ap (λ (z : Tables). length (z .first)) (v .became .others);
+  empty = ap (λ (z : Tables). length (z .empty)) (v .became .others);
+  follow = v .became .step .sized .len ∙ sym (h .follows .len);
+  productive = ap (λ (z : Tables). length (z .productive)) (v .became .others);
+  cost = ap (λ (z : Tables). length (z .cost)) (v .became .others);
+}
+long-on productive g p a x b h v = record {
+  first = ap (λ (z : Tables). length (z .first)) (v .became .others);
+  empty = ap (λ (z : Tables). length (z .empty)) (v .became .others);
+  follow = ap (λ (z : Tables). length (z .follow)) (v .became .others);
+  productive = v .became .step .sized .len ∙ sym (h .len);
+  cost = ap (λ (z : Tables). length (z .cost)) (v .became .others);
+}
+long-on cost g p a x b h v = record {
+  first = ap (λ (z : Tables). length (z .first)) (v .became .others);
+  empty = ap (λ (z : Tables). length (z .empty)) (v .became .others);
+  follow = ap (λ (z : Tables). length (z .follow)) (v .became .others);
+  productive = ap (λ (z : Tables). length (z .productive)) (v .became .others);
+  cost = v .became .step .long;
+}
+
+-- and the kind: FOLLOW reads what it read
 pub kind-on : (n : ℕ) (g : Flat) (p : ℕ) (a : Tables) (x : Bool) (b : Tables) → Visit (kindOf n a) g p a x b → kindOf n b ≡ kindOf n a
 kind-on n g p a x b v = go (eqb n 0) (eqb n 2) (eqb n 3) (v .became)
   where
@@ -44,49 +96,41 @@ kind-on n g p a x b v = go (eqb n 0) (eqb n 2) (eqb n 3) (v .became)
     go false false q3 s = refl
 
 -- the loop so far: `made` visits from where the job stood
-pub record Working (k : Kind) (g : Flat) (next : ℕ) (changed done : Bool) (l : Lent) (at : ℕ) (new over : Bool) (now : Lent) (read : List Bool) (made : ℕ) : Type 0 where
-  pub begun : Workable k g at now
-  pub keeps : Keeps k g l now
-  pub long : length read ≡ 512
-  pub sliced : Slice (Alone k g) (length (g .owners)) made (progress next changed done) l made (progress at new over) now
+pub record Working (kind : ℕ) (g : Flat) (next : ℕ) (changed done : Bool) (t : Tables) (at : ℕ) (new over : Bool) (now : Tables) (made : ℕ) : Type 0 where
+  pub begun : Workable (kindOf kind t) g at now
+  pub same : kindOf kind now ≡ kindOf kind t
+  pub long : Long t now
+  pub sliced : Slice (Visit (kindOf kind t) g) (length (g .owners)) made (progress next changed done) t made (progress at new over) now
 
-module _ (k : Kind) (g : Flat) (next : ℕ) (changed done : Bool) (l : Lent) (b : Workable k g next l) where
-  pub working-start : (read : List Bool) → length read ≡ 512 → Working k g next changed done l next changed done l read 0
-  working-start read e = record { begun = b; keeps = stepping k g (b .well) .filling .same l; long = e; sliced = full }
+module _ (kind : ℕ) (g : Flat) (next : ℕ) (changed done : Bool) (t : Tables) where
+  pub working-start : Workable (kindOf kind t) g next t → Working kind g next changed done t next changed done t 0
+  working-start w = record { begun = w; same = refl; long = long-same t; sliced = full }
 
-  module _ (at : ℕ) (new over : Bool) (now : Lent) (read : List Bool) (made : ℕ) (w : Working k g next changed done l at new over now read made) where
-    pub working-ready : (p : ℕ) → p ≡ at → Ready k g false p now read
-    working-ready p e = record { well = b .well; isProd = rw e (w .begun .below); held = w .begun .held; reads = b .reads; due = λ t. absurd (false≢true t); long = w .long }
+  module _ (at : ℕ) (new over : Bool) (now : Tables) (made : ℕ) (w : Working kind g next changed done t at new over now made) where
+    pub working-ready : (p : ℕ) → p ≡ at → Ready (kindOf kind now) g p now
+    working-ready p e = record { well = w .begun .well; isProd = rw e (w .begun .below); held = subst (λ z. Held z g now) (sym (w .same)) (w .begun .held) }
 
-    pub working-on : (n p : ℕ) → p ≡ at → (ltb made n && not over) ≡ true → (got more : Bool) (to : Lent) (read′ : List Bool) → Steps k g p now read got more to read′
-        → (at′ : ℕ) (new′ over′ : Bool) → progress at′ new′ over′ ≡ after (length (g .owners)) got (progress at new false) → Working k g next changed done l at′ new′ over′ to read′ (made + 1)
-    working-on n p ep go got more to read′ s at′ new′ over′ e =
+    pub working-on : (n p : ℕ) → p ≡ at → (ltb made n && not over) ≡ true → (got : Bool) (to : Tables) → Visit (kindOf kind now) g p now got to
+        → (at′ : ℕ) (new′ over′ : Bool) → progress at′ new′ over′ ≡ after (length (g .owners)) got (progress at new false) → Working kind g next changed done t at′ new′ over′ to (made + 1)
+    working-on n p ep go got to v at′ new′ over′ e =
         let open′ : over ≡ false = not-true over (and-split (ltb made n) _ go .1) in
-        let v : Alone k g at now got to = subst (λ z. Alone k g z now got to) ep (s .steps) in
-        let x : Keeps k g now to = stepping k g (b .well) .spares at (w .begun .below) now to (v .became) in
+        let v′ : Visit (kindOf kind t) g at now got to = subst (λ z. Visit (kindOf kind t) g z now got to) ep (subst (λ z. Visit z g p now got to) (w .same) v) in
         record {
           begun = record {
-            well = b .well;
+            well = w .begun .well;
             below = subst (λ (z : Progress). z .next < length (g .owners)) (sym e) (after-below (length (g .owners)) got (progress at new false) (w .begun .below));
-            held = stepping k g (b .well) .held now to x (w .begun .held);
-            reads = b .reads;
+            held = held-on (kindOf kind t) g at now got to (w .begun .held) v′;
           };
-          keeps = stepping k g (b .well) .filling .then l now to (w .keeps) x;
-          long = s .long ∙ w .long;
-          sliced = subst (λ z. Slice (Alone k g) (length (g .owners)) z (progress next changed done) l z (progress at′ new′ over′) to) (sym (add-one made))
-              (subst (λ z. Slice (Alone k g) (length (g .owners)) (suc made) (progress next changed done) l (suc made) z to) (sym e) (slice-append (w .sliced) got to open′ v));
+          same = kind-on kind g p now got to v ∙ w .same;
+          long = long-then t now to (w .long) (long-on (kindOf kind t) g at now got to (w .begun .held) v′);
+          sliced = subst (λ z. Slice (Visit (kindOf kind t) g) (length (g .owners)) z (progress next changed done) t z (progress at′ new′ over′) to) (sym (add-one made))
+              (subst (λ z. Slice (Visit (kindOf kind t) g) (length (g .owners)) (suc made) (progress next changed done) t (suc made) z to) (sym e) (slice-append (w .sliced) got to open′ v′));
         }
 
-    pub working-end : (n : ℕ) → made ≤ n → (ltb made n && not over) ≡ false → Slice (Alone k g) (length (g .owners)) n (progress next changed done) l made (progress at new over) now
-    working-end n m e = go (ltb made n) over refl refl e
+    pub working-end : (n : ℕ) → made ≤ n → (ltb made n && not over) ≡ false → Slice (Visit (kindOf kind t) g) (length (g .owners)) n (progress next changed done) t made (progress at new over) now
+    working-end n l e = go (ltb made n) over refl refl e
       where
-        go : (x y : Bool) → ltb made n ≡ x → over ≡ y → (x && not y) ≡ false → Slice (Alone k g) (length (g .owners)) n (progress next changed done) l made (progress at new over) now
-        go x true ex ey z = slice-stop n (w .sliced) m ey
-        go true false ex ey z = absurd (let z : _≡_ {A = ℕ} 0 1 = cc in omega arith)
-        go false false ex ey z = subst (λ z. Slice (Alone k g) (length (g .owners)) z (progress next changed done) l made (progress at new over) now) (le-antisymm m (ltb-false made n ex)) (w .sliced)
-
-    pub working-long : length (now .first) ≡ length (l .first)
-    working-long = table-long k g l now (b .held) (w .keeps)
-
-    pub working-row : length (now .empty) ≡ length (l .empty)
-    working-row = row-same k g l now (b .held) (w .keeps)
+        go : (x y : Bool) → ltb made n ≡ x → over ≡ y → (x && not y) ≡ false → Slice (Visit (kindOf kind t) g) (length (g .owners)) n (progress next changed done) t made (progress at new over) now
+        go x true ex ey k = slice-stop n (w .sliced) l ey
+        go true false ex ey k = absurd (let z : _≡_ {A = ℕ} 0 1 = cc in omega arith)
+        go false false ex ey k = subst (λ z. Slice (Visit (kindOf kind t) g) (length (g .owners)) z (progress next changed done) t made (progress at new over) now) (le-antisymm l (ltb-false made n ex)) (w .sliced)

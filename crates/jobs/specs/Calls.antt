@@ -13,10 +13,7 @@ use Rattle.tables.specs.Call.{Call}
 use Rattle.jobs.specs.declared.Job.{Job}
 use Rattle.jobs.specs.declared.Sliced.{Sliced}
 use Rattle.jobs.specs.declared.Sliced.the-variants.{Made, Refused}
-use Rattle.engine.specs.First.{Lent as Firsts}
-use Rattle.engine.specs.Kinds.{Kind, Held, Reading}
-use Rattle.jobs.specs.Lent.{Tables}
-use Rattle.jobs.specs.Kinds.{kindOf, kindWrong, Visit}
+use Rattle.jobs.specs.Kinds.{Tables, Kind, kindOf, kindWrong, Held, Visit}
 
 -- the cases of the answer: the number of visits made, or the refusal
 abbrev pub slicedIs : Sliced → Outcome ℕ
@@ -64,9 +61,8 @@ pub record Works (g : Flat) (n : ℕ) (j : Job) (t : Tables) (said : Outcome ℕ
 abbrev pub SliceOf : Flat → (n : ℕ) → Job → Tables → Sliced → Job → Tables → Type 0
 SliceOf g n j t r j′ t′ = Call (sliceDue g j t) (Works g n j t) (lends j t) (slicedIs r) (lends j′ t′)
 
--- what the loop of visits asks: a well-formed grammar, a next production, tables of their lengths
-pub record Workable (k : Kind) (g : Flat) (next : ℕ) (l : Firsts) : Type 0 where
+-- what the loop of visits asks: a well-formed grammar, a next production, the kind's tables of their lengths
+pub record Workable (k : Kind) (g : Flat) (next : ℕ) (t : Tables) : Type 0 where
   pub well : WellFormed g
   pub below : next < length (g .owners)
-  pub held : Held k g l
-  pub reads : Reading k g
+  pub held : Held k g t

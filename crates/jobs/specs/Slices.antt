@@ -17,8 +17,7 @@ use Rattle.costs.specs.Calls.{zeros as rowZeros, unknown}
 use Rattle.costs.specs.Defined.{ProductiveDefined, CostDefined}
 use Rattle.jobs.specs.declared.Job.{Job}
 use Rattle.jobs.specs.declared.Sliced.{Sliced}
-use Rattle.engine.specs.Kinds.{Kind, first, follow, productive, cost}
-use Rattle.jobs.specs.Lent.{Tables}
+use Rattle.jobs.specs.Kinds.{Tables, Kind, first, follow, productive, cost}
 use Rattle.jobs.specs.Calls.{jobAt, sliceDue, SliceOf}
 
 -- a fresh job of a kind: next 0, no change, not done

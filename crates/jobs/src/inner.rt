@@ -1,4 +1,4 @@
-// A job below the public call: where it stands after a visit, visits one after another on the tables of its kind.
+// A job below the public call: one production's step of a kind, where the job stands after it, visits one after another.
 use crate::JOB_COST;
 use crate::JOB_FIRST;
 use crate::JOB_FOLLOW;
@@ -6,7 +6,6 @@ use crate::JOB_NONE;
 use crate::JOB_PRODUCTIVE;
 use crate::Job;
 use crate::Sliced;
-use engine::inner::step;
 use grammar::Checked;
 use grammar::PIdx;
 use grammar::inner::number;
@@ -15,18 +14,66 @@ use tables::inner::numbers_wrong;
 use tables::inner::row_wrong;
 use tables::inner::table_wrong;
 ghost use mathlib.Core.Bool.{false};
-ghost use mathlib.Core.List.{[]};
 ghost use mathlib.Core.Path.{_≡_};
 ghost use Prim.Native.Nat.{_<_, _≤_};
 ghost use lib.ListN.{length};
 ghost use Rattle.theory.specs.Slices.{after, Slice};
 ghost use Rattle.grammar.specs.Flat.{flat};
-ghost use Rattle.engine.specs.First.{lent as firsts};
-ghost use Rattle.engine.specs.Follow.{reads};
-ghost use Rattle.engine.specs.Kinds.{kindAt};
-ghost use Rattle.jobs.specs.Lent.{tables};
-ghost use Rattle.jobs.specs.Kinds.{kindOf, kindWrong, Visit, part, Alone};
+ghost use Rattle.jobs.specs.Kinds.{tables, kindOf, kindWrong, Visit, Ready};
 ghost use Rattle.jobs.specs.Calls.{progress, Workable, SliceOf};
+
+// Production p's step in the tables of the kind.
+fn step(
+    kind: u16,
+    rules: u16,
+    owners: &[u16],
+    starts: &[u16],
+    symbols: &[u16],
+    costs: &[u8],
+    p: usize,
+    first: &mut [u32],
+    empty: &mut [u32],
+    follow: &mut [u32],
+    productive: &mut [u32],
+    cost: &mut [u32],
+    reached: &[u32],
+) -> bool
+    requires { ⌜ Ready (kindOf kind (tables (now first) (now empty) (now follow) (now productive) (now cost) (now reached))) (flat rules (now owners) (now starts) (now symbols) (now costs)) p (tables (now first) (now empty) (now follow) (now productive) (now cost) (now reached)) ⌝ }
+    ensures { λ r. ⌜ Visit (kindOf kind (tables (now (first .entry)) (now (empty .entry)) (now (follow .entry)) (now (productive .entry)) (now (cost .entry)) (now (reached .entry)))) (flat rules (now (owners .entry)) (now (starts .entry)) (now (symbols .entry)) (now (costs .entry))) p (tables (now (first .entry)) (now (empty .entry)) (now (follow .entry)) (now (productive .entry)) (now (cost .entry)) (now (reached .entry))) r (tables (now (first .exit)) (now (empty .exit)) (now (follow .exit)) (now (productive .exit)) (now (cost .exit)) (now (reached .entry))) ⌝ }
+{
+    if kind == JOB_FIRST {
+        return engine::inner::first::step(rules, owners, starts, symbols, costs, p, first, empty);
+    }
+    if kind == JOB_FOLLOW {
+        return engine::inner::follow::step(
+            rules,
+            owners,
+            starts,
+            symbols,
+            costs,
+            false,
+            p,
+            follow,
+            first,
+            empty,
+            reached,
+        );
+    }
+    if kind == JOB_PRODUCTIVE {
+        return engine::inner::productive::step(
+            rules,
+            owners,
+            starts,
+            symbols,
+            costs,
+            p,
+            productive,
+        );
+    }
+    let mut read: [bool; 512] = [false; 512];
+    let got = engine::inner::cost::step(rules, owners, starts, symbols, costs, p, &mut read, cost);
+    got.changed
+}
 
 // Where a job stands.
 pub struct Stand {
@@ -64,64 +111,7 @@ pub struct Worked {
 }
 
 // At most n visits, in rising order from `next`, starting again at 0; fewer only when the job is or becomes done.
-fn work(
-    kind: u16,
-    rules: u16,
-    owners: &[u16],
-    starts: &[u16],
-    symbols: &[u16],
-    costs: &[u8],
-    next: u16,
-    changed: bool,
-    done: bool,
-    n: u32,
-    table: &mut [u32],
-    row: &mut [u32],
-    first: &[u32],
-    empty: &[u32],
-    reached: &[u32],
-) -> Worked
-    requires { ⌜ Workable (kindAt kind (reads (firsts (now first) (now empty)) (now reached))) (flat rules (now owners) (now starts) (now symbols) (now costs)) next (firsts (now table) (now row)) ⌝ }
-    ensures { λ r. ⌜ Slice (Alone (kindAt kind (reads (firsts (now (first .entry)) (now (empty .entry))) (now (reached .entry)))) (flat rules (now (owners .entry)) (now (starts .entry)) (now (symbols .entry)) (now (costs .entry)))) (length (now (owners .entry))) n (progress next changed done) (firsts (now (table .entry)) (now (row .entry))) (r .made) (progress (r .next) (r .changed) (r .done)) (firsts (now (table .exit)) (now (row .exit))) ⌝ }
-{
-    let mut read: [bool; 512] = [false; 512];
-    let mut at = next;
-    let mut new = changed;
-    let mut over = done;
-    let mut made: u32 = 0;
-    while (made < n) & !over {
-        let got = step(
-            kind,
-            rules,
-            owners,
-            starts,
-            symbols,
-            costs,
-            false,
-            wide(at),
-            table,
-            row,
-            &mut read,
-            first,
-            empty,
-            reached,
-        );
-        let s = moved(owners.len(), at, new, got.changed);
-        at = s.next;
-        new = s.changed;
-        over = s.done;
-        made += 1;
-    }
-    Worked {
-        next: at,
-        changed: new,
-        done: over,
-        made: made,
-    }
-}
-
-// The same on the tables of the kind.
-fn visits(
+pub fn work(
     kind: u16,
     rules: u16,
     owners: &[u16],
@@ -139,83 +129,41 @@ fn visits(
     cost: &mut [u32],
     reached: &[u32],
 ) -> Worked
-    requires { ⌜ Workable (kindOf kind (tables (now first) (now empty) (now follow) (now productive) (now cost) (now reached))) (flat rules (now owners) (now starts) (now symbols) (now costs)) next (part (kindOf kind (tables (now first) (now empty) (now follow) (now productive) (now cost) (now reached))) (tables (now first) (now empty) (now follow) (now productive) (now cost) (now reached)) []) ⌝ }
+    requires { ⌜ Workable (kindOf kind (tables (now first) (now empty) (now follow) (now productive) (now cost) (now reached))) (flat rules (now owners) (now starts) (now symbols) (now costs)) next (tables (now first) (now empty) (now follow) (now productive) (now cost) (now reached)) ⌝ }
     ensures { λ r. ⌜ Slice (Visit (kindOf kind (tables (now (first .entry)) (now (empty .entry)) (now (follow .entry)) (now (productive .entry)) (now (cost .entry)) (now (reached .entry)))) (flat rules (now (owners .entry)) (now (starts .entry)) (now (symbols .entry)) (now (costs .entry)))) (length (now (owners .entry))) n (progress next changed done) (tables (now (first .entry)) (now (empty .entry)) (now (follow .entry)) (now (productive .entry)) (now (cost .entry)) (now (reached .entry))) (r .made) (progress (r .next) (r .changed) (r .done)) (tables (now (first .exit)) (now (empty .exit)) (now (follow .exit)) (now (productive .exit)) (now (cost .exit)) (now (reached .entry))) ⌝ }
 {
-    if kind == JOB_FIRST {
-        return work(
+    let mut at = next;
+    let mut new = changed;
+    let mut over = done;
+    let mut made: u32 = 0;
+    while (made < n) & !over {
+        let got = step(
             kind,
             rules,
             owners,
             starts,
             symbols,
             costs,
-            next,
-            changed,
-            done,
-            n,
+            wide(at),
             first,
             empty,
-            reached,
-            reached,
-            reached,
-        );
-    }
-    if kind == JOB_FOLLOW {
-        return work(
-            kind,
-            rules,
-            owners,
-            starts,
-            symbols,
-            costs,
-            next,
-            changed,
-            done,
-            n,
             follow,
-            &mut [0; 1],
-            first,
-            empty,
-            reached,
-        );
-    }
-    if kind == JOB_PRODUCTIVE {
-        return work(
-            kind,
-            rules,
-            owners,
-            starts,
-            symbols,
-            costs,
-            next,
-            changed,
-            done,
-            n,
             productive,
-            &mut [0; 1],
-            reached,
-            reached,
+            cost,
             reached,
         );
+        let s = moved(owners.len(), at, new, got);
+        at = s.next;
+        new = s.changed;
+        over = s.done;
+        made += 1;
     }
-    work(
-        kind,
-        rules,
-        owners,
-        starts,
-        symbols,
-        costs,
-        next,
-        changed,
-        done,
-        n,
-        cost,
-        &mut [0; 1],
-        reached,
-        reached,
-        reached,
-    )
+    Worked {
+        next: at,
+        changed: new,
+        done: over,
+        made: made,
+    }
 }
 
 // Refusal 7: a table of the kind is not of its exact length. The others are not looked at.
@@ -307,7 +255,7 @@ pub fn sliced(
             said: Sliced::Refused(7),
         };
     }
-    let w = visits(
+    let w = work(
         kind,
         rules,
         owners,

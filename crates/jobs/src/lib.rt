@@ -1,7 +1,7 @@
 // Work in slices: a job fills one table by a few visits at a time.
 use grammar::PIdx;
 ghost use Rattle.grammar.specs.Flat.{flat};
-ghost use Rattle.jobs.specs.Lent.{tables};
+ghost use Rattle.jobs.specs.Kinds.{tables};
 ghost use Rattle.jobs.specs.Calls.{SliceOf};
 
 pub mod inner;

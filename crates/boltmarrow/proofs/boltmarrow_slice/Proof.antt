@@ -45,7 +45,7 @@ use denote.Triple.Clauses.{ensured, lasts}
 use denote.Exit.{yes}
 use denote.Triple.Walked.{says, Stays, stay-ref, stay-dropped, gave-slice, walkOf, AllGo, goes-ref, goes-dropped, goes-gave-slice, Walks, ends-at, walked, walk-meets}
 use Rattle.grammar.specs.Flat.{flat}
-use Rattle.jobs.specs.Lent.{tables}
+use Rattle.jobs.specs.Kinds.{tables}
 use Rattle.boltmarrow.specs.Slices.{SliceSays}
 use Rattle.boltmarrow.specs.declared.Job.{Job}
 use Rattle.boltmarrow.specs.declared.Left.{Left}

@@ -15,11 +15,11 @@ wrong-requires c κs = let i = c .before .before .before .before .before in let 
 returns-3 : tie.Need-returns-3
 returns-3 c = let x = c .before in let i = x .before .before .before .before .before .before in let v = i .before in let m = v .before in let k = m .before .before in slice-7 _ _ _ _ _ (k .check .ensures) (m .enum-told .given .1) _ (v .wide .ensures .0) (i .if1 .left) _ (x .wrong .ensures) (c .if2 .taken)
 
-visits-requires : tie.Need-visits-requires
-visits-requires c κs = let o = c .before .before .before .before .before in let x = o .before in let i = x .before .before .before .before .before .before in let v = i .before in let m = v .before in let k = m .before .before in slice-workable _ (k .before .before .before .before .before .before .before .before .before .before .before .args .n) (k .before .before .before .before .before .before .before .before .before .before .before .args .job) _ _ (k .check .ensures) (m .enum-told .given .1) _ (v .wide .ensures .0) (i .if1 .left) _ (x .wrong .ensures) (o .if2 .left) (record { first = λ i. k .before .before .before .before .before .before .slice-known .given i .fits; empty = λ i. k .before .before .before .before .before .slice-known2 .given i .fits; follow = λ i. k .before .before .before .before .slice-known3 .given i .fits; productive = λ i. k .before .before .before .slice-known4 .given i .fits })
+work-requires : tie.Need-work-requires
+work-requires c κs = let o = c .before .before .before .before .before in let x = o .before in let i = x .before .before .before .before .before .before in let v = i .before in let m = v .before in let k = m .before .before in slice-workable _ (k .before .before .before .before .before .before .before .before .before .before .before .args .n) (k .before .before .before .before .before .before .before .before .before .before .before .args .job) _ _ (k .check .ensures) (m .enum-told .given .1) _ (v .wide .ensures .0) (i .if1 .left) _ (x .wrong .ensures) (o .if2 .left) (record { first = λ i. k .before .before .before .before .before .before .slice-known .given i .fits; empty = λ i. k .before .before .before .before .before .slice-known2 .given i .fits; follow = λ i. k .before .before .before .before .slice-known3 .given i .fits; productive = λ i. k .before .before .before .slice-known4 .given i .fits })
 
 returns-4 : tie.Need-returns-4
-returns-4 c = let y = c .before .before .before .before .before .before .before .before .before .before in let o = y .before .before .before .before .before .before in let x = o .before in let i = x .before .before .before .before .before .before in let v = i .before in let m = v .before in let k = m .before .before in slice-does _ _ _ _ _ (k .check .ensures) (m .enum-told .given .1) _ (v .wide .ensures .0) (i .if1 .left) _ (x .wrong .ensures) (o .if2 .left) _ _ _ _ _ (y .visits .ensures)
+returns-4 c = let y = c .before .before .before .before .before .before .before .before .before .before in let o = y .before .before .before .before .before .before in let x = o .before in let i = x .before .before .before .before .before .before in let v = i .before in let m = v .before in let k = m .before .before in slice-does _ _ _ _ _ (k .check .ensures) (m .enum-told .given .1) _ (v .wide .ensures .0) (i .if1 .left) _ (x .wrong .ensures) (o .if2 .left) _ _ _ _ _ (y .work .ensures)
 
 pub sliced-spec : {M : Type 1} → statement M
 sliced-spec =
@@ -39,7 +39,7 @@ sliced-spec =
     (λ c. search needs)  -- same-length-4
     (λ c. search needs)  -- same-length-5
     returns-3
-    visits-requires
+    work-requires
     (λ c. search needs)  -- same-length-6
     (λ c. search needs)  -- same-length-7
     (λ c. search needs)  -- same-length-8

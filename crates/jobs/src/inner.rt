@@ -60,7 +60,15 @@ fn step(
         );
     }
     if kind == JOB_PRODUCTIVE {
-        return engine::inner::productive::step(rules, owners, starts, symbols, costs, p, productive);
+        return engine::inner::productive::step(
+            rules,
+            owners,
+            starts,
+            symbols,
+            costs,
+            p,
+            productive,
+        );
     }
     let mut read: [bool; 512] = [false; 512];
     let got = engine::inner::cost::step(rules, owners, starts, symbols, costs, p, &mut read, cost);

@@ -3,6 +3,9 @@ use Rattle.engine.proofs.inner.cost.step.Statement.{statement}
 use borrow.Author.Needs.{needs}
 use Rattle.engine.proofs.inner.cost.step.Tie as tie
 
+returns-2 : tie.Need-returns-2
+returns-2 c = search (needs, lowers-new)
+
 pub step-spec : {M : Type 1} → statement M
 step-spec =
     tie.close
@@ -17,6 +20,6 @@ step-spec =
     (λ c. search (needs, lower-owner))  -- slice-write-cost
     (λ c. search (needs, lower-few))  -- element-copy-out-t24
     (λ c. search needs)  -- same-length-2
-    (λ c. search (needs, lowers-new))  -- returns-2
+    returns-2
     (λ c. search needs)  -- same-length-3
     (λ c. search (needs, lowers-none)))  -- returns-3

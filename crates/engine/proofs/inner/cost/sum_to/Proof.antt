@@ -10,6 +10,9 @@ Inv-loop symbols costs a e cost top read₀ n₀ i₀ read n i = SummedRead symb
 abbrev μ-loop : tie.MeasureT-loop
 μ-loop symbols costs a e cost top read₀ n₀ i₀ read n i = e - i
 
+returns : tie.Need-returns Inv-loop μ-loop
+returns c = search (needs, reading-known)
+
 pub sum-to-spec : {M : Type 1} → statement M
 sum-to-spec =
     tie.close
@@ -25,7 +28,7 @@ sum-to-spec =
     (λ c. search needs)  -- add-n
     (λ c. search needs)  -- loop-less
     (λ c. search (needs, reading-below))  -- loop-again
-    (λ c. search (needs, reading-known))  -- returns
+    returns
     (λ c. search (needs, reading-unknown))  -- returns-2
     (λ c. search needs)  -- loop-less-2
     (λ c. search (needs, reading-cut))  -- loop-again-2

@@ -17,7 +17,7 @@ use Rattle.engine.specs.First.{Lent, lent, Ready as FirstReady, FirstBec
 use Rattle.engine.specs.Follow.{Reads, FollowBecame, StepReady}
 use Rattle.engine.specs.Productive.{ProductiveBecame, RowReady}
 use Rattle.engine.specs.Cost.{costsOf, CostBecame, Agrees, Adds, Calm as CostCalm, Lowerable, Lowers}
-use Rattle.engine.specs.Kinds.{Kind, first, follow, productive, cost, kindAt, Beside, view, makes, Quiet, Calm, Became, Ready, Steps}
+use Rattle.engine.specs.Kinds.{Kind, first, follow, productive, cost, kindAt, Beside, kindView, makes, Quiet, Calm, KindBecame, Ready, Steps}
 use Rattle.engine.proofs.FirstMoving.{became-same}
 use Rattle.engine.proofs.Instances.{stepping, calm-quiet}
 
@@ -30,12 +30,12 @@ besides table row x t s = record {
 }
 
 -- a step of a kind whose every change needs a further round
-plainly : (k : Kind) (g : Flat) (again : Bool) (p : ℕ) (l : Lent) (read : List Bool) → ((q : ℕ) (m : Lent) → Quiet k g q m → Calm k g q read m) → Ready k g again p l read → (x : Bool) (to : Lent) → Stepped (Became k g p l) l x to → Steps k g p l read x x to read
+plainly : (k : Kind) (g : Flat) (again : Bool) (p : ℕ) (l : Lent) (read : List Bool) → ((q : ℕ) (m : Lent) → Quiet k g q m → Calm k g q read m) → Ready k g again p l read → (x : Bool) (to : Lent) → Stepped (KindBecame k g p l) l x to → Steps k g p l read x x to read
 plainly k g again p l read into ok x to s = record {
   steps = s;
   long = refl;
   told = λ e. e;
-  calm = λ e. into p to (ap (λ z. makes k g p (view k g z)) (s .still e) ∙ sym (stepping k g (ok .well) .shows p (ok .isProd) l to (s .became)));
+  calm = λ e. into p to (ap (λ z. makes k g p (kindView k g z)) (s .still e) ∙ sym (stepping k g (ok .well) .shows p (ok .isProd) l to (s .became)));
   stays = λ e q c. into q to (subst (λ z. Quiet k g q z) (sym (s .still e)) (calm-quiet k g q read l c));
 }
 
@@ -70,7 +70,7 @@ module _ (n : ℕ) (from : Reads) (g : Flat) (again : Bool) (p : ℕ) (table row
   made k is x y to read′ s = subst (λ z. Steps z g p (lent table row) read x y to read′) (sym is) s
 
   -- no change is early
-  plain-made : (k : Kind) → kindAt n from ≡ k → ((q : ℕ) (m : Lent) → Quiet k g q m → Calm k g q read m) → (z : Bool) (to : Lent) → Stepped (Became k g p (lent table row)) (lent table row) z to
+  plain-made : (k : Kind) → kindAt n from ≡ k → ((q : ℕ) (m : Lent) → Quiet k g q m → Calm k g q read m) → (z : Bool) (to : Lent) → Stepped (KindBecame k g p (lent table row)) (lent table row) z to
       → (x y : Bool) → (x ≡ z) × (y ≡ false) → Steps (kindAt n from) g p (lent table row) read x (x && not y) to read
   plain-made k is into z to s x y e = made k is x (x && not y) to read (rw (e .0, e .1, and-true z) (plainly k g again p (lent table row) read into (ready k is) z to s))
 

@@ -13,20 +13,20 @@ use Rattle.theory.proofs.Fills.{turned, turns-round, Settling, left}
 use Rattle.grammar.specs.Flat.{Flat}
 use Rattle.tables.proofs.Stepping.{round-start, round-held, round-on, round-end, settle-start, settle-held, settle-inv, settle-on, settle-end, settle-less}
 use Rattle.engine.specs.First.{Lent}
-use Rattle.engine.specs.Kinds.{Kind, view, makes, Keeps, Due, Calm, Ready, Steps, Begun, Rounds, Settled}
+use Rattle.engine.specs.Kinds.{Kind, kindView, makes, Keeps, Served, Calm, Ready, Steps, Begun, Rounds, Settled}
 use Rattle.engine.proofs.Instances.{stepping, begun-inv, inv-fit, table-long, row-same, roomOf, room-is, due-run, due-among, calm-quiet}
 
 -- the first i productions of a round have had their turn
 pub record Turned (k : Kind) (g : Flat) (down : Bool) (i : ℕ) (l : Lent) (read : List Bool) (more : Bool) (now : Lent) : Type 0 where
   pub changed : Bool
-  pub moves : Moves (makes k g) (view k g) (Keeps k g) (turns down (length (g .owners)) i) l changed now
+  pub moves : Moves (makes k g) (kindView k g) (Keeps k g) (turns down (length (g .owners)) i) l changed now
   pub told : more ≡ true → changed ≡ true
   pub long : length read ≡ 512
   pub calm : more ≡ false → (j : ℕ) → j < i → Calm k g (turn down (length (g .owners)) j) read now
 
 -- rounds so far
 abbrev pub Settle : Kind → Flat → Lent → Bool → Lent → Type 0
-Settle k g = Settling (makes k g) (view k g) (Keeps k g) (length (g .owners))
+Settle k g = Settling (makes k g) (kindView k g) (Keeps k g) (length (g .owners))
 
 -- one for a round still to be made, and one for each change that it can make
 abbrev pub leftOf : Kind → (R T : ℕ) → Lent → Bool → ℕ
@@ -49,13 +49,13 @@ module _ (k : Kind) (g : Flat) (l : Lent) (b : Begun k g l) where
     }
 
     module _ (i : ℕ) (read : List Bool) (more : Bool) (now : Lent) (m : Turned k g down i l read more now) where
-      pub turn-ready : (again : Bool) → (again ≡ true → (p : ℕ) → p < length (g .owners) → Due k g p (view k g l)) → (p : ℕ) → i < length (g .owners) → p ≡ turn down (length (g .owners)) i → Ready k g again p now read
+      pub turn-ready : (again : Bool) → (again ≡ true → (p : ℕ) → p < length (g .owners) → Served k g p (kindView k g l)) → (p : ℕ) → i < length (g .owners) → p ≡ turn down (length (g .owners)) i → Ready k g again p now read
       turn-ready again d p lt e = let q = turned down (length (g .owners)) i p lt e in record {
         well = b .well;
         isProd = q;
         held = round-held (stepping k g (b .well)) down l (b .held) (begun-inv k g l b) i (m .changed) now (m .moves);
         reads = b .reads;
-        due = λ t. rw (m .moves .ran) (due-run k g p (turns down (length (g .owners)) i) (view k g l) (d t p q));
+        due = λ t. rw (m .moves .ran) (due-run k g p (turns down (length (g .owners)) i) (kindView k g l) (d t p q));
         long = m .long;
       }
 
@@ -114,8 +114,8 @@ module _ (k : Kind) (g : Flat) (l : Lent) (b : Begun k g l) where
           record { visits = z .visits; valid = z .valid; ran = z .ran; keeps = z .keeps; rests = m .rests }
 
       -- each production had its turn
-      pub rounds-due : (p : ℕ) → p < length (g .owners) → Due k g p (view k g next)
-      rounds-due p lt = rw (m .moves .ran) (due-among k g p (turns down (length (g .owners)) (length (g .owners))) (view k g now) (turns-round down (length (g .owners)) .all p lt))
+      pub rounds-due : (p : ℕ) → p < length (g .owners) → Served k g p (kindView k g next)
+      rounds-due p lt = rw (m .moves .ran) (due-among k g p (turns down (length (g .owners)) (length (g .owners))) (kindView k g now) (turns-round down (length (g .owners)) .all p lt))
 
       less : x ≡ true → leftOf k (g .rules) (length (g .costs)) next (m .changed) < leftOf k (g .rules) (length (g .costs)) now x
       unfolding left

@@ -41,11 +41,11 @@ Seen (follow read) = Table
 Seen productive = Row
 Seen cost = Costs
 
-abbrev pub view : (k : Kind) → Flat → Lent → Seen k
-view first g l = marksOf (g .rules) (length (g .costs)) l
-view (follow read) g l = tableOf (g .rules) (length (g .costs)) (l .first)
-view productive g l = rowOf (g .rules) (l .first)
-view cost g l = costsOf (l .first)
+abbrev pub kindView : (k : Kind) → Flat → Lent → Seen k
+kindView first g l = marksOf (g .rules) (length (g .costs)) l
+kindView (follow read) g l = tableOf (g .rules) (length (g .costs)) (l .first)
+kindView productive g l = rowOf (g .rules) (l .first)
+kindView cost g l = costsOf (l .first)
 
 -- a production's visit
 abbrev pub makes : (k : Kind) → Flat → ℕ → Seen k → Seen k
@@ -61,18 +61,18 @@ Keeps productive g = Beside (RowSpared (g .rules))
 Keeps cost g = Beside Long
 
 -- tables of their lengths
-abbrev pub Held : Kind → Flat → Lent → Type 0
-Held first g l = FirstHeld (g .rules) (length (g .costs)) l
-Held (follow read) g l = Sized (g .rules) (words (length (g .costs))) (l .first)
-Held productive g l = Sized 1 (words (g .rules)) (l .first)
-Held cost g l = length (l .first) ≡ g .rules
+abbrev pub KindHeld : Kind → Flat → Lent → Type 0
+KindHeld first g l = FirstHeld (g .rules) (length (g .costs)) l
+KindHeld (follow read) g l = Sized (g .rules) (words (length (g .costs))) (l .first)
+KindHeld productive g l = Sized 1 (words (g .rules)) (l .first)
+KindHeld cost g l = length (l .first) ≡ g .rules
 
 -- and so are those that are read
-abbrev pub Reading : Kind → Flat → Type 0
-Reading first g = Unit {0}
-Reading (follow read) g = ReadHeld g read
-Reading productive g = Unit {0}
-Reading cost g = Unit {0}
+abbrev pub ReadsHeld : Kind → Flat → Type 0
+ReadsHeld first g = Unit {0}
+ReadsHeld (follow read) g = ReadHeld g read
+ReadsHeld productive g = Unit {0}
+ReadsHeld cost g = Unit {0}
 
 -- what else a begun table is: FIRST has no mark for eof, COST no entry above 65537
 abbrev pub Fit : Kind → Flat → Lent → Type 0
@@ -82,15 +82,15 @@ Fit productive g l = Unit {0}
 Fit cost g l = (r : ℕ) → costsOf (l .first) r ≤ costUnknown
 
 -- what holds of production p after its visit: a plain one is quiet, one of a reached rule is fed
-abbrev pub Due : (k : Kind) → Flat → ℕ → Seen k → Type 0
-Due first g p m = plain (denoted g .body p) ≡ true → firstVisit (denoted g) p m ≡ m
-Due (follow read) g p f = reachedOf (g .rules) (read .reached) (denoted g .owner p) ≡ true → Fed (marksOf (g .rules) (length (g .costs)) (read .firsts)) (denoted g .body p) f
-Due productive g p s = Unit {0}
-Due cost g p s = Unit {0}
+abbrev pub Served : (k : Kind) → Flat → ℕ → Seen k → Type 0
+Served first g p m = plain (denoted g .body p) ≡ true → firstVisit (denoted g) p m ≡ m
+Served (follow read) g p f = reachedOf (g .rules) (read .reached) (denoted g .owner p) ≡ true → Fed (marksOf (g .rules) (length (g .costs)) (read .firsts)) (denoted g .body p) f
+Served productive g p s = Unit {0}
+Served cost g p s = Unit {0}
 
 -- production p's visit changes nothing; COST's none as long as what was read stays
 abbrev pub Quiet : (k : Kind) → Flat → ℕ → Lent → Type 0
-Quiet k g p l = makes k g p (view k g l) ≡ view k g l
+Quiet k g p l = makes k g p (kindView k g l) ≡ kindView k g l
 
 abbrev pub Calm : (k : Kind) → Flat → ℕ → List Bool → Lent → Type 0
 Calm first g p read l = Quiet first g p l
@@ -98,24 +98,24 @@ Calm (follow from) g p read l = Quiet (follow from) g p l
 Calm productive g p read l = Quiet productive g p l
 Calm cost g p read l = CostCalm g p read (costsOf (l .first))
 
-abbrev pub Became : Kind → Flat → ℕ → Lent → Lent → Type 0
-Became first g p = FirstBecame g p
-Became (follow read) g p = Beside (FollowBecame g read p)
-Became productive g p = Beside (ProductiveBecame g p)
-Became cost g p = Beside (CostBecame g p)
+abbrev pub KindBecame : Kind → Flat → ℕ → Lent → Lent → Type 0
+KindBecame first g p = FirstBecame g p
+KindBecame (follow read) g p = Beside (FollowBecame g read p)
+KindBecame productive g p = Beside (ProductiveBecame g p)
+KindBecame cost g p = Beside (CostBecame g p)
 
 -- what a step asks; `again` if each production had its turn
 pub record Ready (k : Kind) (g : Flat) (again : Bool) (p : ℕ) (l : Lent) (read : List Bool) : Type 0 where
   pub well : WellFormed g
   pub isProd : p < length (g .owners)
-  pub held : Held k g l
-  pub reads : Reading k g
-  pub due : again ≡ true → Due k g p (view k g l)
+  pub held : KindHeld k g l
+  pub reads : ReadsHeld k g
+  pub due : again ≡ true → Served k g p (kindView k g l)
   pub long : length read ≡ 512
 
 -- a step was made; unless `more`, production p is calm now, and so is each that was
 pub record Steps (k : Kind) (g : Flat) (p : ℕ) (l : Lent) (read : List Bool) (changed more : Bool) (to : Lent) (read′ : List Bool) : Type 0 where
-  pub steps : Stepped (Became k g p l) l changed to
+  pub steps : Stepped (KindBecame k g p l) l changed to
   pub long : length read′ ≡ length read
   pub told : more ≡ true → changed ≡ true
   pub calm : more ≡ false → Calm k g p read′ to
@@ -124,22 +124,22 @@ pub record Steps (k : Kind) (g : Flat) (p : ℕ) (l : Lent) (read : List Bool) (
 -- what rounds ask
 pub record Begun (k : Kind) (g : Flat) (l : Lent) : Type 0 where
   pub well : WellFormed g
-  pub held : Held k g l
+  pub held : KindHeld k g l
   pub fit : Fit k g l
-  pub reads : Reading k g
+  pub reads : ReadsHeld k g
 
 -- what one round asks
 pub record RoundReady (k : Kind) (g : Flat) (again : Bool) (l : Lent) : Type 0 where
   pub begun : Begun k g l
-  pub due : again ≡ true → (p : ℕ) → p < length (g .owners) → Due k g p (view k g l)
+  pub due : again ≡ true → (p : ℕ) → p < length (g .owners) → Served k g p (kindView k g l)
 
 -- a round up or down was made; unless `more`, no visit would change anything
 pub record Rounds (k : Kind) (g : Flat) (down : Bool) (before : Lent) (more : Bool) (after : Lent) : Type 0 where
   pub changed : Bool
-  pub moves : Moves (makes k g) (view k g) (Keeps k g) (turns down (length (g .owners)) (length (g .owners))) before changed after
+  pub moves : Moves (makes k g) (kindView k g) (Keeps k g) (turns down (length (g .owners)) (length (g .owners))) before changed after
   pub told : more ≡ true → changed ≡ true
-  pub rests : more ≡ false → Rest (makes k g) (length (g .owners)) (view k g after)
+  pub rests : more ≡ false → Rest (makes k g) (length (g .owners)) (kindView k g after)
 
 -- rounds were made until none would change anything
 abbrev pub Settled : Kind → Flat → Lent → Lent → Type 0
-Settled k g = Settles (makes k g) (view k g) (Keeps k g) (length (g .owners))
+Settled k g = Settles (makes k g) (kindView k g) (Keeps k g) (length (g .owners))

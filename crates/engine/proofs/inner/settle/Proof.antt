@@ -5,7 +5,7 @@ use lib.ListN.{length}
 use Rattle.grammar.specs.Flat.{flat}
 use Rattle.engine.specs.First.{lent}
 use Rattle.engine.specs.Follow.{reads}
-use Rattle.engine.specs.Kinds.{kindAt, view, Due}
+use Rattle.engine.specs.Kinds.{kindAt, kindView, Served}
 use Rattle.engine.proofs.Rounding.{Settle, leftOf, rounds-start, rounds-begun, rounds-again, rounds-less, rounds-done, rounds-due, rounds-long, rounds-row}
 use Rattle.engine.proofs.inner.settle.Statement.{statement}
 use Rattle.engine.proofs.inner.settle.Tie as tie
@@ -13,7 +13,7 @@ use Rattle.engine.proofs.inner.settle.Tie as tie
 abbrev Inv-loop : tie.InvT-loop
 Inv-loop kind rules owners starts symbols costs table₀ row₀ first empty reached again₀ down₀ more₀ table row again down more =
     Settle (kindAt kind (reads (lent first empty) reached)) (flat rules owners starts symbols costs) (lent table₀ row₀) more (lent table row)
-    × (again ≡ true → (p : ℕ) → p < length owners → Due (kindAt kind (reads (lent first empty) reached)) (flat rules owners starts symbols costs) p (view (kindAt kind (reads (lent first empty) reached)) (flat rules owners starts symbols costs) (lent table row)))
+    × (again ≡ true → (p : ℕ) → p < length owners → Served (kindAt kind (reads (lent first empty) reached)) (flat rules owners starts symbols costs) p (kindView (kindAt kind (reads (lent first empty) reached)) (flat rules owners starts symbols costs) (lent table row)))
 
 abbrev μ-loop : tie.MeasureT-loop
 μ-loop kind rules owners starts symbols costs table₀ row₀ first empty reached again₀ down₀ more₀ table row again down more =

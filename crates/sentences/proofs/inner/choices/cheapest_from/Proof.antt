@@ -16,6 +16,9 @@ abbrev μ-loop : tie.MeasureT-loop
 sum-requires : tie.Need-sum-requires Inv-loop μ-loop
 sum-requires c κs = let i = c .before in let l = i .before in let t = l .before in let n = t .before in rising-pricing _ _ _ _ _ _ _ _ _ (n .before .before .before .before .before .before .pre) _ (n .entry-at .ensures) (t .if1 .left) _ (l .loop .inv) (i .loop-test .taken) _ _ _ (c .prod-at .ensures)
 
+loop-again : tie.Need-loop-again Inv-loop μ-loop
+loop-again c = search (needs, rising-on)
+
 pub cheapest-from-spec : {M : Type 1} → statement M
 cheapest-from-spec =
     tie.close
@@ -32,5 +35,5 @@ cheapest-from-spec =
     (λ c κs. search needs)  -- wide-requires
     (λ c. search (needs, from-found))  -- returns-2
     (λ c. search (needs, rising-less))  -- loop-less
-    (λ c. search (needs, rising-on))  -- loop-again
+    loop-again
     (λ c. search (needs, from-none)))  -- returns-3

@@ -10,6 +10,9 @@ Inv-loop from n at out₀ i₀ out i = Copying from n at out₀ i out
 abbrev μ-loop : tie.MeasureT-loop
 μ-loop from n at out₀ i₀ out i = n - i
 
+loop-again : tie.Need-loop-again Inv-loop μ-loop
+loop-again c = search (needs, copy-on)
+
 pub copy-spec : {M : Type 1} → statement M
 copy-spec =
     tie.close
@@ -25,7 +28,7 @@ copy-spec =
     (λ c. search (needs, copy-to))  -- slice-write-out
     (λ c. search needs)  -- add-i
     (λ c. search needs)  -- loop-less
-    (λ c. search (needs, copy-on))  -- loop-again
+    loop-again
     (λ c. search needs)  -- add-result
     (λ c. search (needs, copy-long))  -- same-length
     (λ c. search (needs, copy-end)))  -- returns

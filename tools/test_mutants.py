@@ -93,9 +93,9 @@ class Sources(unittest.TestCase):
                          {"grammar::inner::prod_at", "grammar::inner::start_at", "grammar::inner::wide"})
 
     def test_a_name_of_another_crate_is_not_taken_for_an_own_one(self):
-        found = source.functions(TOP / "crates" / "firsts")
-        self.assertNotIn("firsts::clear", source.reaches("firsts::fill", found, CRATES))
-        self.assertIn("firsts::inner::step", source.reaches("firsts::fill", found, CRATES))
+        found = source.functions(TOP / "crates" / "follows")
+        self.assertNotIn("follows::clear", source.reaches("follows::fill", found, CRATES))
+        self.assertIn("follows::inner::begin", source.reaches("follows::fill", found, CRATES))
 
     def test_an_old_text_that_is_not_there_once_is_refused(self):
         found = source.functions(TOP / "crates" / "rows")

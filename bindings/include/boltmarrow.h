@@ -40,11 +40,12 @@
  * which there are at most 512. boltmarrow_count_min_sentences takes up to 165 KB, 288 bytes a level,
  * and boltmarrow_min_sentence_at up to 290 KB, 528 bytes a level. boltmarrow_has_path,
  * boltmarrow_reached_fill and boltmarrow_follow_fill take 12 KB, boltmarrow_house_row 17 KB,
- * boltmarrow_profile 47 KB, boltmarrow_slice takes 1.25 KB, the other house calls take 1.5 KB, every
- * other call at most 1 KB. A KB is 1000 bytes here, and arguments on the stack are counted. Where the
- * C library's memset is bound at its first call, not at the program's start, a call of up to 1.5 KB
- * that makes it takes the linker's stack too, some 3 KB. No call takes other memory than its stack
- * and its lists.
+ * boltmarrow_profile 47 KB, boltmarrow_slice takes 1.25 KB, boltmarrow_first_fill,
+ * boltmarrow_productive_fill, boltmarrow_cost_fill and boltmarrow_min_sentence_cost take 1.5 KB, the
+ * other house calls take 2 KB, every other call at most 1 KB. A KB is 1000 bytes here, and arguments
+ * on the stack are counted. Where the C library's memset is bound at its first call, not at the
+ * program's start, a call of up to 2 KB that makes it takes the linker's stack too, some 3 KB. No
+ * call takes other memory than its stack and its lists.
  *
  * Refusals:
  *   1  R, T, P or N outside its limits (R 2..512, T 1..512, P 2..4096, N 1..16384)

@@ -23,7 +23,7 @@ use Rattle.listings.specs.Calls.{CountDone, NumberDone}
 use Rattle.listings.proofs.Exactly as All
 use Rattle.listings.proofs.Exactly.{counts-said, numbers-said}
 use Rattle.blocks.specs.Reading.{Lists, Reads}
-use Rattle.follows.specs.Lent.{Lent}
+use Rattle.engine.specs.Follow.{Lent}
 use Rattle.profiles.specs.Calls.{Judges}
 use Rattle.house.specs.Calls.{Prices, RowWritten}
 use Rattle.house.specs.Table.{cheapestRow}

@@ -17,7 +17,7 @@ use Rattle.theory.specs.Levels.{Chosen, within, expanded}
 use Rattle.theory.specs.Search.{Chain, one, link}
 use Rattle.theory.specs.Profile.{Verdict, passes, clashes, Judged}
 use Rattle.theory.specs.Sentences.{Expands}
-use Rattle.theory.specs.Rounds.{run}
+use Rattle.theory.specs.Rounds.{run, rounds, AnyOrder}
 use Rattle.theory.specs.Visits.{firstVisit, firstCleared, among}
 use Rattle.theory.specs.Tables.{Proper, FirstExact, ReachedExact, FollowExact, ProductiveExact, CostExact}
 use Rattle.theory.proofs.Bools.{and-split, or-split, or-left, or-right, same, same-is}
@@ -51,20 +51,15 @@ agree-at : (n : ℕ) (f : ℕ → Bool) (ts : List ℕ) → agree n f ts ≡ tru
 agree-at zero f ts e t lt = absurd (not-suc-le-zero lt)
 agree-at (suc n) f ts e t lt =
     let s = and-split (same (f n) (holds n ts)) _ e in
-    let ih : t < n → f t ≡ holds t ts = agree-at n f ts (s .1) t in
-    elim (eq-or-lt-of-le (le-of-suc-le-suc lt)) [ inl d ↦ ap f d ∙ same-is _ _ (s .0) ∙ ap (λ z. holds z ts) (sym d) | inr l ↦ ih l ]
+    elim (eq-or-lt-of-le (le-of-suc-le-suc lt)) [ inl d ↦ ap f d ∙ same-is _ _ (s .0) ∙ ap (λ z. holds z ts) (sym d) | inr l ↦ agree-at n f ts (s .1) t l ]
 
 holds-mem : (t : ℕ) (ts : List ℕ) → holds t ts ≡ true → List·Memᴰ t ts
 holds-mem t [] e = absurd (false≢true e)
-holds-mem t (s ∷ ts) e =
-    let ih : holds t ts ≡ true → List·Memᴰ t ts = holds-mem t ts in
-    elim (or-split (eqb t s) _ e) [ inl k ↦ List·Memᴰ·head (eqb-true t s k) | inr k ↦ List·Memᴰ·tail (ih k) ]
+holds-mem t (s ∷ ts) e = elim (or-split (eqb t s) _ e) [ inl k ↦ List·Memᴰ·head (eqb-true t s k) | inr k ↦ List·Memᴰ·tail (holds-mem t ts k) ]
 
 mem-holds : (t : ℕ) (ts : List ℕ) → List·Memᴰ t ts → holds t ts ≡ true
 mem-holds t [] m = absurd (List·Memᴰ·not-nil m)
-mem-holds t (s ∷ ts) m =
-    let ih : List·Memᴰ t ts → holds t ts ≡ true = mem-holds t ts in
-    elim (List·Memᴰ·cases-cons m) [ inl d ↦ or-left _ (eq-eqb t s d) | inr n ↦ or-right (eqb t s) (ih n) ]
+mem-holds t (s ∷ ts) m = elim (List·Memᴰ·cases-cons m) [ inl d ↦ or-left _ (eq-eqb t s d) | inr n ↦ or-right (eqb t s) (mem-holds t ts n) ]
 
 set-is : {A : Type 0} (f : Bool) (t : ℕ) (ts : List ℕ) → A ↔ (f ≡ true) → f ≡ holds t ts → A ↔ List·Memᴰ t ts
 set-is f t ts x e = ((λ a. holds-mem t ts (sym e ∙ x .0 a)), λ m. x .1 (e ∙ mem-holds t ts m))
@@ -79,12 +74,10 @@ list-same (x ∷ xs) (y ∷ ys) e = let s = and-split (eqb x y) _ e in ap₂ _�
 module _ (d : Grammar) where
   uses-is : (n : ℕ) → n ≤ d .prods → (a b : ℕ) → uses d n a b ≡ true → Uses d a b
   uses-is zero l a b e = absurd (false≢true e)
-  uses-is (suc p) l a b e =
-      let ih : uses d p a b ≡ true → Uses d a b = uses-is p (omega arith) a b in
-      elim (or-split (eqb (d .owner p) a && among (d .body p) b) _ e) [
-        | inl k ↦ let s = and-split (eqb (d .owner p) a) _ k in record { prod = p; isProd = l; owns = eqb-true _ a (s .0); holds = among-mem (d .body p) b (s .1) }
-        | inr k ↦ ih k
-      ]
+  uses-is (suc p) l a b e = elim (or-split (eqb (d .owner p) a && among (d .body p) b) _ e) [
+    | inl k ↦ let s = and-split (eqb (d .owner p) a) _ k in record { prod = p; isProd = l; owns = eqb-true _ a (s .0); holds = among-mem (d .body p) b (s .1) }
+    | inr k ↦ uses-is p (omega arith) a b k
+  ]
 
   leads-is : (a : ℕ) (by : List ℕ) (b : ℕ) → leads d a by b ≡ true → Chain (Uses d) a b
   leads-is a [] b e = one (uses-is (d .prods) (omega arith) a b e)
@@ -94,10 +87,9 @@ module _ (d : Grammar) where
   unused-is zero b e p lt m = not-suc-le-zero lt
   unused-is (suc n) b e p lt m =
       let s = and-split (not (among (d .body n) b)) _ e in
-      let ih : p < n → ⊥ = λ l. unused-is n b (s .1) p l m in
       elim (eq-or-lt-of-le (le-of-suc-le-suc lt)) [
         | inl q ↦ true≢false (sym (mem-among (d .body n) b (subst (λ z. List·Memᴰ (rul b) (d .body z)) q m)) ∙ not-true _ (s .0))
-        | inr l ↦ ih l
+        | inr l ↦ unused-is n b (s .1) p l m
       ]
 
   unused-chain : (b : ℕ) → unused d (d .prods) b ≡ true → {a : ℕ} → Chain (Uses d) a b → ⊥
@@ -106,23 +98,24 @@ module _ (d : Grammar) where
 
 -- tables
 module _ (d : Grammar) (ok : Proper d) where
-  enough : (n : ℕ) → n ≤ length (many d n)
-  enough n = omega (arith, length-replicate n (upto (d .prods)))
+  -- a table filled by its rounds is the defined one
+  filled-right : {S : Type 0} {step : ℕ → S → S} {cleared : S} {n : ℕ} {Holds Exact : S → Type 0} → AnyOrder step cleared (d .prods) n Holds Exact → Exact (rounds step (many d n) cleared)
+  filled-right {n = n} a = settled-exact a (many d n) (all-rounds n (upto (d .prods)) (upto-round (d .prods))) (omega (arith, length-replicate n (upto (d .prods))))
 
   first-right : FirstExact d (firstFilled d)
-  first-right = settled-exact (first-any-order d ok) (many d (d .rules * d .tokens)) (all-rounds (d .rules * d .tokens) (upto (d .prods)) (upto-round (d .prods))) (enough (d .rules * d .tokens))
+  first-right = filled-right (first-any-order d ok)
 
   reached-right : ReachedExact d (reachedFilled d)
-  reached-right = settled-exact (reached-any-order d ok) (many d (d .rules)) (all-rounds (d .rules) (upto (d .prods)) (upto-round (d .prods))) (enough (d .rules))
+  reached-right = filled-right (reached-any-order d ok)
 
   follow-right : FollowExact d (followFilled d)
-  follow-right = settled-exact (follow-any-order d ok (firstFilled d) first-right (reachedFilled d) reached-right) (many d (d .rules * d .tokens)) (all-rounds (d .rules * d .tokens) (upto (d .prods)) (upto-round (d .prods))) (enough (d .rules * d .tokens))
+  follow-right = filled-right (follow-any-order d ok (firstFilled d) first-right (reachedFilled d) reached-right)
 
   productive-right : ProductiveExact d (productiveFilled d)
-  productive-right = settled-exact (productive-any-order d ok) (many d (d .rules)) (all-rounds (d .rules) (upto (d .prods)) (upto-round (d .prods))) (enough (d .rules))
+  productive-right = filled-right (productive-any-order d ok)
 
   cost-right : (k : ℕ → ℕ) → CostExact d k (costFilled d k)
-  cost-right k = settled-exact (cost-any-order d k ok) (many d (d .rules)) (all-rounds (d .rules) (upto (d .prods)) (upto-round (d .prods))) (enough (d .rules))
+  cost-right k = filled-right (cost-any-order d k ok)
 
   picks : (k : ℕ → ℕ) → Chosen d k (costFilled d k) (chosen d k)
   picks k = choices-chosen d k (costFilled d k)

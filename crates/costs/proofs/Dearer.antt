@@ -17,7 +17,7 @@ use Rattle.tables.specs.Sizes.{numbersWrong}
 use Rattle.costs.specs.Calls.{fillDue, Fill}
 use Rattle.costs.specs.Defined.{CostDefined}
 use Rattle.costs.specs.Dearer.{OneDearer, Becomes, none, dear, rises, passes}
-use Rattle.costs.specs.Lent.{costsOf}
+use Rattle.engine.specs.Cost.{costsOf}
 use Rattle.costs.specs.Query.{costIs, queryDue, Priced, MinSentenceCost}
 use Rattle.costs.specs.declared.Cost.{Cost as Answer}
 

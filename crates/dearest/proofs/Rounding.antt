@@ -21,7 +21,7 @@ use Rattle.grammar.proofs.Well.{laid-end}
 use Rattle.rows.proofs.Tables.{cleared-at}
 use Rattle.tables.specs.Call.{Stepped}
 use Rattle.tables.proofs.Stepping.{Stepping, round-start, round-held, round-inv, round-on, round-end}
-use Rattle.costs.specs.Rounds.{Long}
+use Rattle.engine.specs.Cost.{Long}
 use Rattle.dearest.specs.Defined.{DearestCleared}
 use Rattle.dearest.specs.Rounds.{DearestBegun, DearestRounds, DearestFound}
 use Rattle.dearest.specs.Step.{DearestReady, DearestBecame}

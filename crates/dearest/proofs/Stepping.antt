@@ -14,8 +14,8 @@ use Rattle.theory.specs.DearestVisits.{noBound, addUp, formDearest, lifted, dea
 use Rattle.grammar.specs.Flat.{Flat, flat, at, ProdAt, form, denoted, price}
 use Rattle.grammar.proofs.Forms.{prod-in, Placed, placed}
 use Rattle.tables.specs.Call.{Stepped}
-use Rattle.costs.specs.Step.{CostReady}
-use Rattle.costs.proofs.Stepping.{pricing, owner-in}
+use Rattle.engine.specs.Cost.{CostReady}
+use Rattle.engine.proofs.CostStepping.{pricing, owner-in}
 use Rattle.dearest.specs.Step.{Summable, sumOf, DearestReady, DearestBecame}
 
 module _ (rules : ℕ) (owners starts symbols costs : List ℕ) (p : ℕ) (dearest : List ℕ) (ok : DearestReady (flat rules owners starts symbols costs) p dearest) where

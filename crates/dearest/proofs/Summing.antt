@@ -9,7 +9,7 @@ use Rattle.theory.specs.Grammar.{Sym, tok, rul}
 use Rattle.theory.proofs.AddUp.{addup-known, addup-grows}
 use Rattle.grammar.specs.Flat.{at, symbol, form}
 use Rattle.grammar.proofs.Forms.{form-done, form-more, symbol-token, symbol-rule}
-use Rattle.costs.specs.Step.{SymbolPriced}
+use Rattle.engine.specs.Cost.{SymbolPriced}
 use Rattle.dearest.specs.Step.{partOf, Summable, sumOf}
 
 -- `symbol_part`

@@ -9,7 +9,7 @@ use Rattle.theory.specs.DearestVisits.{noBound, dearestVisit, endsAs}
 use Rattle.theory.specs.Fills.{turns, Moves}
 use Rattle.grammar.specs.Flat.{Flat, at, denoted, price}
 use Rattle.grammar.specs.Well.{WellFormed}
-use Rattle.costs.specs.Rounds.{Long}
+use Rattle.engine.specs.Cost.{Long}
 
 -- what a round asks: a well-formed grammar, costs that are bytes, and a number of at most no bound for each rule
 pub record DearestBegun (g : Flat) (dearest : List ℕ) : Type 0 where

@@ -7,7 +7,7 @@ use lib.ListN.{length}
 use Rattle.theory.specs.DearestVisits.{noBound, addUp, symDearest, formDearest, dearestVisit}
 use Rattle.theory.specs.Grammar.{Form}
 use Rattle.grammar.specs.Flat.{Flat, at, symbol, denoted, price}
-use Rattle.costs.specs.Step.{Pricing}
+use Rattle.engine.specs.Cost.{Pricing}
 use Rattle.dearest.specs.Rounds.{DearestBegun}
 
 -- what symbol s adds to a sum

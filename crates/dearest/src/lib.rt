@@ -2,9 +2,8 @@
 // grammar.rs, with true answers where the source settles too soon.
 use grammar::Checked;
 use grammar::inner::number;
-use grammar::inner::wide;
 use tables::Filled;
-use tables::inner::numbers_wrong;
+use tables::inner::numbers_due;
 ghost use Rattle.grammar.specs.Flat.{flat};
 ghost use Rattle.dearest.specs.Calls.{Fill};
 
@@ -33,14 +32,10 @@ pub fn fill(
 ) -> Filled
     ensures { λ r. ⌜ Fill (flat rules (now (owners .entry)) (now (starts .entry)) (now (symbols .entry)) (now (costs .entry))) (now (dearest .entry)) r (now (dearest .exit)) ⌝ }
 {
-    let c = grammar::check(rules, owners, starts, symbols, costs);
+    let c = numbers_due(rules, owners, starts, symbols, costs, dearest.len());
     let Checked::Well = c else {
         return Filled::Refused(number(c));
     };
-    let n = wide(rules);
-    if numbers_wrong(n, dearest) {
-        return Filled::Refused(7);
-    }
     inner::dearest_fill(rules, owners, starts, symbols, costs, dearest);
     Filled::Done
 }

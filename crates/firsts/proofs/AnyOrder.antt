@@ -23,9 +23,9 @@ use Rattle.tables.specs.declared.Filled.{Filled}
 use Rattle.tables.proofs.Asking.{table-right, row-right}
 use Rattle.tables.proofs.AnyOrder.{unless-not, goes, Steady, visits-spare, visits-hold, rest-exact, rounds-still}
 use Rattle.tables.proofs.Stepping.{steady}
-use Rattle.firsts.specs.Lent.{Lent, lent, Held, Spared, marksOf}
+use Rattle.engine.specs.First.{Lent, lent, Held, Spared, marksOf}
+use Rattle.engine.proofs.FirstMoving.{stepping}
 use Rattle.firsts.specs.Calls.{lentWrong, fillDue, visitDue, zeros, firstVisits, Defined, Fill}
-use Rattle.firsts.proofs.Moving.{stepping}
 use Rattle.firsts.proofs.Calling.{one-row, zeros-marks, zeros-held}
 use Rattle.firsts.proofs.Determined.{defined-one}
 

@@ -21,7 +21,7 @@ use Rattle.tables.specs.Sizes.{numbersWrong}
 use Rattle.tables.proofs.AnyOrder.{unless-not, goes}
 use Rattle.firsts.specs.Calls.{Fill}
 use Rattle.costs.specs.Calls.{Fill as FillBelow}
-use Rattle.costs.specs.Lent.{costsOf}
+use Rattle.engine.specs.Cost.{costsOf}
 use Rattle.costs.specs.Query.{MinSentenceCost}
 use Rattle.costs.specs.declared.Cost.{Cost as CostAnswer}
 use Rattle.sentences.specs.Query.{Lends, lends, MinSentence}

@@ -26,7 +26,7 @@ use Rattle.theory.proofs.Sentences.{sentence-of}
 use Rattle.grammar.specs.Flat.{Flat, denoted, price}
 use Rattle.grammar.specs.Well.{WellFormed}
 use Rattle.grammar.proofs.Denoted.{proper}
-use Rattle.costs.specs.Lent.{costsOf}
+use Rattle.engine.specs.Cost.{costsOf}
 use Rattle.sentences.specs.Lent.{choicesOf}
 
 -- production p costs less than its owner's entry

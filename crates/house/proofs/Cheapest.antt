@@ -12,7 +12,7 @@ use Rattle.theory.specs.Visits.{Costs}
 use Rattle.theory.proofs.Levels.{within-expands}
 use Rattle.grammar.specs.Flat.{denoted, price}
 use Rattle.grammar.proofs.Denoted.{proper}
-use Rattle.costs.specs.Lent.{costsOf}
+use Rattle.engine.specs.Cost.{costsOf}
 use Rattle.sentences.specs.Lent.{choicesOf}
 use Rattle.house.specs.Table.{owners, starts, symbols, costs, house, cheapestRow}
 use Rattle.house.proofs.Formed.{formed}

@@ -14,9 +14,9 @@ use Rattle.tables.specs.declared.Asked.{Asked}
 use Rattle.tables.specs.declared.Filled.{Filled}
 use Rattle.tables.specs.Answers.{askedIs}
 use Rattle.tables.proofs.Calls.{Both, Alike, call-one, leaves-one, asked-one, filled-one}
-use Rattle.firsts.specs.Lent.{lent}
+use Rattle.engine.specs.First.{lent}
+use Rattle.engine.specs.Cost.{costsOf}
 use Rattle.firsts.proofs.Determined.{defined-one}
-use Rattle.costs.specs.Lent.{costsOf}
 use Rattle.costs.specs.declared.Cost.{Cost as CostAnswer}
 use Rattle.costs.proofs.Determined.{cost-defined-one, cost-answer-one}
 use Rattle.sentences.specs.Measuring.{LengthsDefined}

@@ -15,7 +15,7 @@ use Rattle.rows.specs.Marks.{mark}
 use Rattle.tables.specs.Call.{Call}
 use Rattle.tables.specs.Sizes.{words, tableWrong, rowWrong, numbersWrong}
 use Rattle.firsts.specs.Calls.{lentWrong}
-use Rattle.firsts.specs.Lent.{lent}
+use Rattle.engine.specs.First.{lent}
 use Rattle.costs.specs.Query.{costIs}
 use Rattle.costs.specs.declared.Cost.{Cost as CostAnswer}
 use Rattle.sentences.specs.Query.{lengthIs}

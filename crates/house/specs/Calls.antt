@@ -15,9 +15,9 @@ use Rattle.tables.specs.Answers.{filledIs}
 use Rattle.tables.specs.Call.{Call, Leaves}
 use Rattle.tables.specs.Sizes.{words, tableWrong, rowWrong, numbersWrong}
 use Rattle.firsts.specs.Calls.{lentWrong, Defined}
-use Rattle.firsts.specs.Lent.{Lent, lent}
+use Rattle.engine.specs.First.{Lent, lent}
+use Rattle.engine.specs.Cost.{costsOf}
 use Rattle.costs.specs.Defined.{CostDefined}
-use Rattle.costs.specs.Lent.{costsOf}
 use Rattle.costs.specs.Query.{costIs}
 use Rattle.costs.specs.declared.Cost.{Cost as CostAnswer}
 use Rattle.sentences.specs.Measuring.{LengthsDefined}

@@ -18,12 +18,13 @@ use Rattle.grammar.proofs.Lowest.{after-well}
 use Rattle.grammar.proofs.Well.{well}
 use Rattle.rows.specs.Marks.{Small}
 use Rattle.tables.specs.Call.{Call}
+use Rattle.tables.specs.Entry.{ByLength}
 use Rattle.tables.specs.Sizes.{words, tableWrong, rowWrong, numbersWrong}
 use Rattle.tables.proofs.Asking.{table-long, row-long, numbers-long}
 use Rattle.tables.proofs.Calls.{call-refused, call-does}
-use Rattle.firsts.specs.Lent.{lent as firsts, Held as FirstHeld}
-use Rattle.follows.specs.Calls.{lentWrong}
-use Rattle.follows.specs.Lent.{reads, lent}
+use Rattle.engine.specs.First.{lent as firsts, Held as FirstHeld}
+use Rattle.engine.specs.Follow.{reads, lent}
+use Rattle.follows.specs.Calls.{lentWrong, LentWrong}
 use Rattle.jobs.specs.declared.Job.{Job}
 use Rattle.jobs.specs.Kinds.{Tables, tables, readOf, first, follow, productive, cost, kindOf, kindWrong, FollowHeld, Held, Visit}
 use Rattle.jobs.specs.Calls.{progress, progressOf, jobAt, jobWrong, sliceDue, lends, Works, Workable}
@@ -33,17 +34,17 @@ module _ (n R T : ℕ) (a e f r c h : List ℕ) where
   abbrev t : Tables
   t = tables a e f r c h
 
-  pub wrong-first : n ≡ 0 → (x y : Bool) → x ≡ tableWrong R T a → y ≡ rowWrong R e → (x || y) ≡ kindWrong (kindOf n t) R T t
-  wrong-first q x y ex ey = rw (ex, ey) (ap (λ z. kindWrong (kindOf z t) R T t) (sym q))
+  pub wrong-first : n ≡ 0 → (x y : Bool) → ByLength (tableWrong R T) (length a) x → ByLength (rowWrong R) (length e) y → (x || y) ≡ kindWrong (kindOf n t) R T t
+  wrong-first q x y ex ey = rw (ex a refl, ey e refl) (ap (λ z. kindWrong (kindOf z t) R T t) (sym q))
 
-  pub wrong-follow : n ≡ 2 → (x : Bool) → x ≡ lentWrong R T (lent f (reads (firsts a e) h)) → x ≡ kindWrong (kindOf n t) R T t
-  wrong-follow q x ex = ex ∙ ap (λ z. kindWrong (kindOf z t) R T t) (sym q)
+  pub wrong-follow : n ≡ 2 → (x : Bool) → LentWrong R T (length f) (length a) (length e) (length h) x → x ≡ kindWrong (kindOf n t) R T t
+  wrong-follow q x ex = ex (lent f (reads (firsts a e) h)) refl refl refl refl ∙ ap (λ z. kindWrong (kindOf z t) R T t) (sym q)
 
-  pub wrong-row : n ≡ 3 → (x : Bool) → x ≡ rowWrong R r → x ≡ kindWrong (kindOf n t) R T t
-  wrong-row q x ex = ex ∙ ap (λ z. kindWrong (kindOf z t) R T t) (sym q)
+  pub wrong-row : n ≡ 3 → (x : Bool) → ByLength (rowWrong R) (length r) x → x ≡ kindWrong (kindOf n t) R T t
+  wrong-row q x ex = ex r refl ∙ ap (λ z. kindWrong (kindOf z t) R T t) (sym q)
 
-  pub wrong-cost : (n ≡ 0 → ⊥) → (n ≡ 2 → ⊥) → (n ≡ 3 → ⊥) → (x : Bool) → x ≡ numbersWrong R c → x ≡ kindWrong (kindOf n t) R T t
-  wrong-cost q0 q2 q3 x ex = ex ∙ rw (ne-eqb n 0 q0, ne-eqb n 2 q2, ne-eqb n 3 q3)
+  pub wrong-cost : (n ≡ 0 → ⊥) → (n ≡ 2 → ⊥) → (n ≡ 3 → ⊥) → (x : Bool) → ByLength (numbersWrong R) (length c) x → x ≡ kindWrong (kindOf n t) R T t
+  wrong-cost q0 q2 q3 x ex = ex c refl ∙ rw (ne-eqb n 0 q0, ne-eqb n 2 q2, ne-eqb n 3 q3)
 
 -- every number of every table is one of 32 bits
 pub record Words (t : Tables) : Type 0 where
@@ -92,20 +93,20 @@ module _ (g : Flat) (n : ℕ) (j : Job) (t : Tables) (c : Checked) (is : checked
   pub slice-17 : bad ≡ true → Call (sliceDue g j t) (Works g n j t) (lends j t) (refused 17) (lends j t)
   slice-17 k = call-refused 17 (after-well g c _ is e ∙ rw (← ew, k))
 
-  module _ (k : bad ≡ false) (r : ℕ) (er : r ≡ g .rules) where
-    module _ (x : Bool) (ex : x ≡ kindWrong (kindOf (j .kind) t) r (length (g .costs)) t) where
+  module _ (k : bad ≡ false) where
+    module _ (x : Bool) (ex : x ≡ kindWrong (kindOf (j .kind) t) (g .rules) (length (g .costs)) t) where
       pub slice-7 : x ≡ true → Call (sliceDue g j t) (Works g n j t) (lends j t) (refused 7) (lends j t)
-      slice-7 q = call-refused 7 (after-well g c _ is e ∙ rw (← ew, k, ← er, ← ex, q))
+      slice-7 q = call-refused 7 (after-well g c _ is e ∙ rw (← ew, k, ← ex, q))
 
       module _ (q : x ≡ false) where
         pub slice-workable : Words t → Workable (kindOf (j .kind) t) g (j .next .0) t
         slice-workable s = record {
           well = well g (sym is ∙ ap checkedIs e);
           below = subst (λ z. z < length (g .owners)) ew (leb-false (length (g .owners)) w (or-none (ltb 4 (j .kind)) _ (or-none (eqb (j .kind) 1) _ k .1) .1));
-          held = held-right g t s (j .kind) (ap (λ z. kindWrong (kindOf (j .kind) t) z (length (g .costs)) t) (sym er) ∙ sym ex ∙ q);
+          held = held-right g t s (j .kind) (sym ex ∙ q);
         }
 
         pub slice-does : (made next : ℕ) (changed done : Bool) (to : Tables) → Slice (Visit (kindOf (j .kind) t) g) (length (g .owners)) n (progressOf j) t made (progress next changed done) to
             → Call (sliceDue g j t) (Works g n j t) (lends j t) (answers made) (lends (jobAt (j .kind) (progress next changed done)) to)
-        slice-does made next changed done to s = call-does (answers made) _ (after-well g c _ is e ∙ rw (← ew, k, ← er, ← ex, q))
+        slice-does made next changed done to s = call-does (answers made) _ (after-well g c _ is e ∙ rw (← ew, k, ← ex, q))
             (record { made = made; stands = progress next changed done; answer = refl; slice = s; job = refl })

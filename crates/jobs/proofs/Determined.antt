@@ -11,9 +11,9 @@ use Rattle.rows.proofs.Row.{row-one}
 use Rattle.rows.proofs.Tables.{became-one}
 use Rattle.tables.specs.Sizes.{words}
 use Rattle.tables.proofs.Calls.{Both, call-one, told-apart}
-use Rattle.firsts.specs.Lent.{Lent as Firsts, lent as firsts}
-use Rattle.firsts.proofs.Moving.{first-became-one}
-use Rattle.costs.proofs.Moving.{costs-words}
+use Rattle.engine.specs.First.{Lent as Firsts, lent as firsts}
+use Rattle.engine.proofs.FirstMoving.{first-became-one}
+use Rattle.engine.proofs.CostMoving.{costs-words}
 use Rattle.jobs.specs.declared.Job.{Job}
 use Rattle.jobs.specs.declared.Sliced.{Sliced}
 use Rattle.jobs.specs.declared.Sliced.the-variants.{Made as Made′, Refused}

@@ -12,18 +12,18 @@ use Rattle.theory.specs.Slices.{Progress, fresh, Slice, full, over, visit, Slic
 use Rattle.grammar.specs.Flat.{Flat, denoted, price}
 use Rattle.grammar.specs.Well.{WellFormed}
 use Rattle.grammar.proofs.Denoted.{proper}
-use Rattle.firsts.specs.Lent.{Lent as Firsts, lent as firsts}
+use Rattle.engine.specs.First.{Lent as Firsts, lent as firsts}
+use Rattle.engine.proofs.FirstMoving.{stepping as firstStepping, begun-inv as first-inv}
+use Rattle.engine.proofs.FollowMoving.{words-in, stepping as followStepping}
+use Rattle.engine.specs.Cost.{costsOf}
+use Rattle.engine.proofs.CostMoving.{row-column, rowStepping, costs-fit, costStepping}
 use Rattle.firsts.specs.Calls.{zeros as firstZeros}
 use Rattle.firsts.proofs.Calling.{zeros-held as first-held, zeros-marks, zeros-begun, settled-defined}
-use Rattle.firsts.proofs.Moving.{stepping as firstStepping, begun-inv as first-inv}
 use Rattle.follows.specs.Calls.{begun}
 use Rattle.follows.proofs.Calling.{begun-held, begun-table, any-order, follow-defined}
-use Rattle.follows.proofs.Moving.{words-in, stepping as followStepping}
 use Rattle.tables.specs.Sizes.{words}
-use Rattle.costs.specs.Lent.{costsOf}
 use Rattle.costs.specs.Calls.{zeros as rowZeros, unknown}
 use Rattle.costs.proofs.Filling.{zeros-row, zeros-held as row-held, unknown-costs, unknown-long, row-fill-defined, cost-fill-defined}
-use Rattle.costs.proofs.Moving.{row-column, rowStepping, costs-fit, costStepping}
 use Rattle.jobs.specs.Kinds.{Tables, tables, Kind, first, follow, productive, cost, kindOf, Visit}
 use Rattle.jobs.specs.declared.Job.{Job}
 use Rattle.jobs.specs.Calls.{progressOf, Lends}
@@ -67,12 +67,12 @@ module _ (g : Flat) (w : WellFormed g) where
   zeros-long g = length-replicate {A = ℕ} (words (g .rules)) 0
 
   unknown-fits : Fits (g .rules) (costsOf (unknown g))
-  unknown-fits = costs-fit g (unknown g) (record { well = w; long = unknown-long g; cap = λ r. omega (arith, ap (λ z. z r) (unknown-costs g)) })
+  unknown-fits = costs-fit g (unknown g) (unknown-long g) (λ r. omega (arith, ap (λ z. z r) (unknown-costs g)))
 
   -- what slices of each kind come to, however the visits are divided into slices
   pub kind-comes : (k : Kind) (t : Tables) → Cleared k g t → {n : ℕ} {i : Progress} {d : Tables} → Slices (Visit k g) (length (g .owners)) n fresh t i d → Comes k g n i d
   kind-comes first t c {d = d} s =
-      let x = part-comes getFirst putFirst lensFirst (firstStepping g w) (first-any-order (denoted g) (proper g w)) t (firstZeros g) c (first-held g) (zeros-marks g) (first-inv g w (firstZeros g) (zeros-begun g w)) some s in
+      let x = part-comes getFirst putFirst lensFirst (firstStepping g w) (first-any-order (denoted g) (proper g w)) t (firstZeros g) c (first-held g) (zeros-marks g) (first-inv g w (firstZeros g) (zeros-begun g w .fit)) some s in
       record { left = λ e. settled-defined g w (getFirst d) (x .settles e); ends = x .ends; always = x .holds }
   kind-comes (follow read) t c {d = d} s =
       let x = part-comes (λ t. t .follow) putFollow lensFollow (followStepping g w read) (any-order g w read (c .0)) t (begun g) (c .1) (begun-held g w) (begun-table g w) (words-in g w read (begun g)) some s in

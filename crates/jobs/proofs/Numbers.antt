@@ -7,12 +7,10 @@ use lib.ListN.{length}
 use borrow.Author.Tests.{ne-eqb}
 use Rattle.grammar.specs.Flat.{Flat}
 use Rattle.tables.specs.Call.{Stepped}
-use Rattle.firsts.specs.Lent.{lent as firsts}
-use Rattle.firsts.specs.Step.{Ready as FirstReady, FirstBecame}
-use Rattle.follows.specs.Step.{FollowBecame}
-use Rattle.follows.specs.Tail.{StepReady as FollowReady}
-use Rattle.costs.specs.Step.{RowReady, ProductiveBecame}
-use Rattle.costs.specs.Reads.{Lowerable, Lowers}
+use Rattle.engine.specs.First.{lent as firsts, Ready as FirstReady, FirstBecame}
+use Rattle.engine.specs.Follow.{FollowBecame, StepReady as FollowReady}
+use Rattle.engine.specs.Productive.{RowReady, ProductiveBecame}
+use Rattle.engine.specs.Cost.{Lowerable, Lowers}
 use Rattle.jobs.specs.Kinds.{Tables, tables, readOf, Kind, first, follow, productive, cost, kindOf, Visit, Ready}
 
 module _ (n : ℕ) (g : Flat) (p : ℕ) (a e f r c h : List ℕ) where

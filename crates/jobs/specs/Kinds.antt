@@ -10,12 +10,11 @@ use Rattle.grammar.specs.Well.{WellFormed}
 use Rattle.rows.specs.Tables.{Sized}
 use Rattle.tables.specs.Call.{Stepped}
 use Rattle.tables.specs.Sizes.{words, tableWrong, rowWrong, numbersWrong}
-use Rattle.firsts.specs.Lent.{lent as firsts, Held as FirstHeld}
-use Rattle.firsts.specs.Step.{FirstBecame}
+use Rattle.engine.specs.First.{lent as firsts, Held as FirstHeld, FirstBecame}
+use Rattle.engine.specs.Follow.{Reads, reads, lent, FollowBecame}
+use Rattle.engine.specs.Productive.{ProductiveBecame}
+use Rattle.engine.specs.Cost.{CostBecame}
 use Rattle.follows.specs.Calls.{lentWrong}
-use Rattle.follows.specs.Lent.{Reads, reads, lent}
-use Rattle.follows.specs.Step.{FollowBecame}
-use Rattle.costs.specs.Step.{ProductiveBecame, CostBecame}
 
 -- all that is lent; which of them are due the kind says. The reached row is only read
 pub record Tables : Type 0 where

@@ -7,11 +7,12 @@ use Rattle.theory.specs.Tables.{FirstTrue, FollowTrue, ProductiveTrue, CostTrue
 use Rattle.theory.specs.Slices.{Progress, fresh}
 use Rattle.grammar.specs.Flat.{Flat, denoted, price}
 use Rattle.grammar.specs.Outcome.{answers, refused}
-use Rattle.firsts.specs.Lent.{lent as firsts, marksOf}
+use Rattle.engine.specs.First.{lent as firsts, marksOf}
+use Rattle.engine.specs.Follow.{tableOf}
+use Rattle.engine.specs.Productive.{rowOf}
+use Rattle.engine.specs.Cost.{costsOf}
 use Rattle.firsts.specs.Calls.{Defined as FirstDefined, zeros as firstZeros}
-use Rattle.follows.specs.Lent.{tableOf}
 use Rattle.follows.specs.Calls.{Defined as FollowDefined, Finished, begun}
-use Rattle.costs.specs.Lent.{rowOf, costsOf}
 use Rattle.costs.specs.Calls.{zeros as rowZeros, unknown}
 use Rattle.costs.specs.Defined.{ProductiveDefined, CostDefined}
 use Rattle.jobs.specs.declared.Job.{Job}

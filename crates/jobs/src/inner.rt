@@ -6,8 +6,6 @@ use crate::JOB_NONE;
 use crate::JOB_PRODUCTIVE;
 use crate::Job;
 use crate::Sliced;
-use costs::inner::cost_step;
-use costs::inner::productive_step;
 use grammar::Checked;
 use grammar::PIdx;
 use grammar::inner::number;
@@ -44,10 +42,10 @@ fn step(
     ensures { λ r. ⌜ Visit (kindOf kind (tables (now (first .entry)) (now (empty .entry)) (now (follow .entry)) (now (productive .entry)) (now (cost .entry)) (now (reached .entry)))) (flat rules (now (owners .entry)) (now (starts .entry)) (now (symbols .entry)) (now (costs .entry))) p (tables (now (first .entry)) (now (empty .entry)) (now (follow .entry)) (now (productive .entry)) (now (cost .entry)) (now (reached .entry))) r (tables (now (first .exit)) (now (empty .exit)) (now (follow .exit)) (now (productive .exit)) (now (cost .exit)) (now (reached .entry))) ⌝ }
 {
     if kind == JOB_FIRST {
-        return firsts::inner::step(rules, owners, starts, symbols, costs, p, first, empty);
+        return engine::inner::first::step(rules, owners, starts, symbols, costs, p, first, empty);
     }
     if kind == JOB_FOLLOW {
-        return follows::inner::step(
+        return engine::inner::follow::step(
             rules,
             owners,
             starts,
@@ -62,10 +60,18 @@ fn step(
         );
     }
     if kind == JOB_PRODUCTIVE {
-        return productive_step(rules, owners, starts, symbols, costs, p, productive);
+        return engine::inner::productive::step(
+            rules,
+            owners,
+            starts,
+            symbols,
+            costs,
+            p,
+            productive,
+        );
     }
     let mut read: [bool; 512] = [false; 512];
-    let got = cost_step(rules, owners, starts, symbols, costs, p, &mut read, cost);
+    let got = engine::inner::cost::step(rules, owners, starts, symbols, costs, p, &mut read, cost);
     got.changed
 }
 
@@ -163,7 +169,7 @@ pub fn work(
 // Refusal 7: a table of the kind is not of its exact length. The others are not looked at.
 fn wrong(
     kind: u16,
-    rules: usize,
+    rules: u16,
     tokens: usize,
     first: &[u32],
     empty: &[u32],
@@ -176,15 +182,22 @@ fn wrong(
     ensures { λ r. ⌜ r ≡ kindWrong (kindOf kind (tables (now (first .entry)) (now (empty .entry)) (now (follow .entry)) (now (productive .entry)) (now (cost .entry)) (now (reached .entry)))) rules tokens (tables (now (first .entry)) (now (empty .entry)) (now (follow .entry)) (now (productive .entry)) (now (cost .entry)) (now (reached .entry))) ⌝ }
 {
     if kind == JOB_FIRST {
-        return table_wrong(rules, tokens, first) | row_wrong(rules, empty);
+        return table_wrong(rules, tokens, first.len()) | row_wrong(rules, empty.len());
     }
     if kind == JOB_FOLLOW {
-        return follows::inner::wrong(rules, tokens, follow, first, empty, reached);
+        return follows::inner::wrong(
+            rules,
+            tokens,
+            follow.len(),
+            first.len(),
+            empty.len(),
+            reached.len(),
+        );
     }
     if kind == JOB_PRODUCTIVE {
-        return row_wrong(rules, productive);
+        return row_wrong(rules, productive.len());
     }
-    numbers_wrong(rules, cost)
+    numbers_wrong(rules, cost.len())
 }
 
 // What a slice leaves of the job, and what it answers.
@@ -228,7 +241,7 @@ pub fn sliced(
     }
     if wrong(
         kind,
-        wide(rules),
+        rules,
         costs.len(),
         first,
         empty,

@@ -15,11 +15,11 @@ use Rattle.rows.specs.Tables.{view}
 use Rattle.rows.proofs.Tables.{view-mark, view-inside}
 use Rattle.rows.proofs.Row.{row-mark}
 use Rattle.tables.specs.Sizes.{words}
-use Rattle.firsts.specs.Lent.{marksOf, lent as firsts}
+use Rattle.engine.specs.First.{marksOf, lent as firsts}
+use Rattle.engine.specs.Follow.{reads, lent}
+use Rattle.engine.proofs.Summing.{entry}
 use Rattle.follows.specs.Calls.{Tables as FollowTables}
-use Rattle.follows.specs.Lent.{reads, lent}
 use Rattle.costs.specs.Defined.{CostDefined}
-use Rattle.costs.proofs.Summing.{entry}
 use Rattle.lines.specs.Text.{members}
 use Rattle.lines.specs.Line.{amount, none, dear, priceOf}
 use Rattle.lines.specs.Lent.{Tables, tables, entryOf}

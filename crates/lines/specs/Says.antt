@@ -9,7 +9,7 @@ use Rattle.theory.specs.Entries.{costMax}
 use Rattle.theory.specs.Follow.{Follow}
 use Rattle.grammar.specs.Flat.{Flat, denoted, price}
 use Rattle.firsts.specs.Calls.{Defined as FirstDefined}
-use Rattle.firsts.specs.Lent.{lent as firsts}
+use Rattle.engine.specs.First.{lent as firsts}
 use Rattle.follows.specs.Calls.{Defined as FollowDefined}
 use Rattle.costs.specs.Defined.{CostDefined}
 use Rattle.lines.specs.Text.{Rising}

@@ -1,7 +1,7 @@
 // Below the public calls: each appends its bytes from place `at` of a lent buffer on, and answers the place after them.
 use costs::COST_DEAR;
 use costs::COST_MAX;
-use costs::inner::entry_at;
+use engine::inner::cost::entry_at;
 use rows::inner::is_set;
 use tables::inner::numbers_wrong;
 use tables::inner::row_wrong;
@@ -182,7 +182,7 @@ pub fn write(
 
 // Refusal 7 for the four tables.
 pub fn tables_wrong(
-    rules: usize,
+    rules: u16,
     tokens: usize,
     empty: &[u32],
     first: &[u32],
@@ -192,9 +192,9 @@ pub fn tables_wrong(
     requires { ⌜ (rules ≤ 512) × (tokens ≤ 512) ⌝ }
     ensures { λ r. ⌜ r ≡ tablesWrong rules tokens (tables (now (empty .entry)) (now (first .entry)) (now (follow .entry)) (now (cost .entry))) ⌝ }
 {
-    row_wrong(rules, empty)
-        | (table_wrong(rules, tokens, first)
-            | (table_wrong(rules, tokens, follow) | numbers_wrong(rules, cost)))
+    row_wrong(rules, empty.len())
+        | (table_wrong(rules, tokens, first.len())
+            | (table_wrong(rules, tokens, follow.len()) | numbers_wrong(rules, cost.len())))
 }
 
 // Refusal 7 for the room.

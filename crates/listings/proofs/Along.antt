@@ -23,7 +23,7 @@ use Rattle.theory.proofs.Odometer.{places-few, ways-some}
 use Rattle.grammar.specs.Flat.{Flat, at, form, denoted, price}
 use Rattle.grammar.proofs.Denoted.{proper}
 use Rattle.grammar.proofs.Forms.{form-token, form-rule}
-use Rattle.costs.specs.Lent.{costsOf}
+use Rattle.engine.specs.Cost.{costsOf}
 use Rattle.sentences.specs.Lent.{lengthsOf}
 use Rattle.sentences.specs.Measuring.{LengthsDefined}
 use Rattle.sentences.proofs.Counting.{length-entry}

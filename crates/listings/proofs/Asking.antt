@@ -19,7 +19,7 @@ use Rattle.grammar.proofs.Outcomes.{not-both}
 use Rattle.grammar.proofs.Well.{well}
 use Rattle.tables.specs.Call.{Call}
 use Rattle.tables.proofs.Calls.{call-refused, call-does}
-use Rattle.costs.specs.Lent.{costsOf}
+use Rattle.engine.specs.Cost.{costsOf}
 use Rattle.listings.specs.Calls.{work, dueBy, allDue, Counts, Numbers, CountDone, lends, NumberDone}
 use Rattle.listings.specs.Working.{Workable, Worked, CountReady, NumberReady}
 

@@ -31,8 +31,8 @@ use Rattle.grammar.specs.Links.{Leads}
 use Rattle.grammar.proofs.Denoted.{proper}
 use Rattle.grammar.proofs.Forms.{form-done, form-token, form-rule, prod-in, Placed, placed}
 use Rattle.rows.proofs.Tables.{cleared-at}
-use Rattle.costs.specs.Lent.{costsOf}
-use Rattle.costs.proofs.Summing.{default-same}
+use Rattle.engine.specs.Cost.{costsOf}
+use Rattle.engine.proofs.Summing.{default-same}
 use Rattle.sentences.specs.Choosing.{FromReady, CheapestFrom}
 use Rattle.sentences.specs.Lent.{choicesOf}
 use Rattle.sentences.proofs.Choosing.{unfit}

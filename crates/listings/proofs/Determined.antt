@@ -8,7 +8,7 @@ use Rattle.theory.proofs.Counts.{counts-one}
 use Rattle.grammar.specs.Flat.{Flat, denoted, price}
 use Rattle.grammar.specs.Outcome.{Outcome, answers, refused}
 use Rattle.tables.proofs.Calls.{Both, call-one, told-apart}
-use Rattle.costs.specs.Lent.{costsOf}
+use Rattle.engine.specs.Cost.{costsOf}
 use Rattle.costs.proofs.Determined.{cost-defined-one}
 use Rattle.sentences.specs.declared.Length.{Length as Answer}
 use Rattle.listings.specs.declared.Counted.{Counted}

@@ -14,7 +14,7 @@ use Rattle.theory.specs.Counts.{Count, counted, many as more, none as no-count}
 use Rattle.theory.proofs.Cost.{cost-one}
 use Rattle.grammar.specs.Flat.{Flat, denoted, price}
 use Rattle.grammar.specs.Outcome.{Outcome, answers, refused}
-use Rattle.costs.specs.Lent.{costsOf}
+use Rattle.engine.specs.Cost.{costsOf}
 use Rattle.costs.proofs.Exactly.{Dear, kinds}
 use Rattle.listings.specs.Calls.{countsOf, Work, Final, Lists, Counts, Numbers}
 

@@ -20,7 +20,7 @@ use Rattle.theory.proofs.Numbers.{choice-cheapest, choice-lowest, below-skip, b
 use Rattle.grammar.specs.Flat.{Flat, at, form, denoted, price}
 use Rattle.grammar.proofs.Denoted.{proper}
 use Rattle.grammar.proofs.Forms.{prod-in, Placed, placed}
-use Rattle.costs.specs.Lent.{costsOf}
+use Rattle.engine.specs.Cost.{costsOf}
 use Rattle.sentences.specs.Choosing.{FromReady, CheapestFrom}
 use Rattle.odometer.specs.declared.inner.Turned.{Turned}
 use Rattle.odometer.specs.declared.inner.Turned.the-variants.{At, Past}

@@ -20,7 +20,7 @@ use Rattle.grammar.specs.Outcome.{Outcome}
 use Rattle.grammar.specs.Well.{WellFormed}
 use Rattle.grammar.proofs.Denoted.{proper}
 use Rattle.tables.proofs.Calls.{Both}
-use Rattle.costs.specs.Lent.{costsOf}
+use Rattle.engine.specs.Cost.{costsOf}
 use Rattle.costs.proofs.Determined.{cost-defined-one}
 use Rattle.sentences.specs.Query.{Says, Sentenced}
 use Rattle.sentences.specs.Query as Sentence

@@ -13,7 +13,7 @@ use Rattle.theory.proofs.Numbers.{found-item}
 use Rattle.theory.proofs.Odometer.{picked-front}
 use Rattle.grammar.specs.Flat.{Flat, at, denoted, price}
 use Rattle.grammar.proofs.Forms.{form-done, prod-in, Placed, placed}
-use Rattle.costs.specs.Lent.{costsOf}
+use Rattle.engine.specs.Cost.{costsOf}
 use Rattle.listings.specs.Calls.{countsOf}
 use Rattle.listings.specs.Counting.{deepBy}
 use Rattle.listings.specs.Numbers.{Numbered, NumberReady, Finds, listsBy, ruleWords, productionWords, RuleMeasurable, ProductionMeasurable}

@@ -26,10 +26,10 @@ use Rattle.grammar.proofs.Denoted.{proper}
 use Rattle.grammar.proofs.Outcomes.{not-both, refused-one, answers-one}
 use Rattle.sentences.specs.Expanding.{Wrote}
 use Rattle.sentences.proofs.Expanding.{remembers-none}
-use Rattle.costs.specs.Lent.{costsOf}
+use Rattle.engine.specs.Cost.{costsOf}
+use Rattle.engine.proofs.Summing.{entry}
 use Rattle.costs.specs.Query.{entryDue}
 use Rattle.costs.proofs.Entry.{due-cost, due-none, due-12, due-13}
-use Rattle.costs.proofs.Summing.{entry}
 use Rattle.sentences.specs.Query.{Refuses}
 use Rattle.listings.specs.declared.Counted.{Counted}
 use Rattle.listings.specs.declared.Counted.the-variants.{Are, Refused as Not}

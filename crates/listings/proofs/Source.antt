@@ -17,7 +17,7 @@ use Rattle.grammar.specs.Flat.{Flat, denoted, price}
 use Rattle.grammar.specs.Outcome.{Outcome, answers, refused}
 use Rattle.grammar.specs.Well.{Built}
 use Rattle.grammar.proofs.Denoted.{proper}
-use Rattle.costs.specs.Lent.{costsOf}
+use Rattle.engine.specs.Cost.{costsOf}
 use Rattle.sentences.specs.declared.Length.{Length as Answer}
 use Rattle.sentences.specs.Query.{lengthIs, Writes}
 use Rattle.listings.specs.declared.Counted.{Counted}

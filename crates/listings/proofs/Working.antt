@@ -7,7 +7,7 @@ use lib.ListN.{length, replicate, length-replicate}
 use Rattle.grammar.specs.Flat.{Flat}
 use Rattle.grammar.specs.Links.{Linked, Linkable}
 use Rattle.grammar.proofs.Linking.{linkable}
-use Rattle.costs.specs.Lent.{costsOf}
+use Rattle.engine.specs.Cost.{costsOf}
 use Rattle.sentences.specs.Working as Sentence
 use Rattle.listings.specs.Calls.{CountsDefined}
 use Rattle.listings.specs.Counting.{Nexts, Ground, CountFillable}

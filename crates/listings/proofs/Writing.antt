@@ -13,7 +13,7 @@ use Rattle.grammar.proofs.Denoted.{proper}
 use Rattle.grammar.proofs.Forms.{form-done}
 use Rattle.tables.specs.Append.{Appended}
 use Rattle.tables.proofs.Appending.{appended-long, appended-none, appended-one, appended-then}
-use Rattle.costs.specs.Lent.{costsOf}
+use Rattle.engine.specs.Cost.{costsOf}
 use Rattle.sentences.specs.Expanding.{Led, Remembers, Wrote, RuleReady}
 use Rattle.sentences.specs.Lent.{choicesOf}
 use Rattle.sentences.specs.Measuring.{LengthsDefined}

@@ -12,7 +12,7 @@ use Rattle.theory.specs.Counting.{Counting, Keeps}
 use Rattle.grammar.specs.Flat.{Flat, at, denoted, price, form}
 use Rattle.grammar.specs.Links.{Leads}
 use Rattle.grammar.specs.Well.{WellFormed}
-use Rattle.costs.specs.Lent.{costsOf}
+use Rattle.engine.specs.Cost.{costsOf}
 use Rattle.costs.specs.Defined.{CostDefined}
 use Rattle.sentences.specs.Choosing.{FirstChoices}
 use Rattle.listings.specs.Calls.{countsOf}

@@ -10,7 +10,7 @@ use Rattle.theory.specs.Listing.{Item, nothing, listing}
 use Rattle.theory.specs.Counts.{formWays}
 use Rattle.theory.specs.Odometer.{Fits, places, picked, Found}
 use Rattle.grammar.specs.Flat.{Flat, at, denoted, price, form}
-use Rattle.costs.specs.Lent.{costsOf}
+use Rattle.engine.specs.Cost.{costsOf}
 use Rattle.sentences.specs.Expanding.{Remembers}
 use Rattle.sentences.specs.Measuring.{SymbolCounted, LengthsDefined}
 use Rattle.listings.specs.Calls.{countsOf, CountsDefined}

@@ -2,8 +2,8 @@
 use crate::COUNT_MANY;
 use crate::COUNT_MAX;
 use crate::Counted;
-use costs::inner::entry_at;
 use costs::inner::entry_due;
+use engine::inner::cost::entry_at;
 use grammar::Checked;
 use grammar::inner::links;
 use grammar::inner::wide;
@@ -14,7 +14,7 @@ use sentences::inner::size;
 ghost use mathlib.Core.Path.{_≡_};
 ghost use Rattle.grammar.specs.Flat.{flat};
 ghost use Rattle.grammar.specs.Production.{checkedIs};
-ghost use Rattle.costs.specs.Lent.{costsOf};
+ghost use Rattle.engine.specs.Cost.{costsOf};
 ghost use Rattle.sentences.specs.Query.{lengthIs};
 ghost use Rattle.listings.specs.Calls.{countedIs, dueBy, Counts, Numbers};
 ghost use Rattle.listings.specs.Working.{Workable, Worked, CountReady, NumberReady, refusalOf};

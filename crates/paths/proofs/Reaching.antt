@@ -16,23 +16,19 @@ use Rattle.theory.proofs.Paths.{Uses}
 use Rattle.theory.proofs.Reached.{reached-reach}
 use Rattle.theory.proofs.Search.{chain-map}
 use Rattle.grammar.specs.Flat.{Flat, at, flat, denoted}
-use Rattle.grammar.specs.Outcome.{answers, refused}
-use Rattle.grammar.specs.Production.{checkedIs, checkOf}
+use Rattle.grammar.specs.Production.{checkedIs}
 use Rattle.grammar.specs.Well.{WellFormed}
 use Rattle.grammar.specs.declared.Checked.{Checked}
 use Rattle.grammar.specs.declared.Checked.the-variants.{Well}
-use Rattle.grammar.proofs.Lowest.{after-well}
-use Rattle.grammar.proofs.Well.{well}
 use Rattle.rows.specs.Marks.{bit, place, mark, marked}
 use Rattle.rows.specs.Tables.{Sized, rowView}
 use Rattle.rows.proofs.Row.{row-mark, row-inside}
-use Rattle.tables.specs.Call.{Call, Leaves}
+use Rattle.tables.specs.Entry.{RowDue}
 use Rattle.tables.specs.Sizes.{words, rowWrong}
-use Rattle.tables.proofs.Asking.{row-long}
-use Rattle.tables.proofs.Calls.{call-refused, call-does}
+use Rattle.tables.proofs.Asking.{row-long, one-entered}
 use Rattle.paths.specs.Lists.{row, Holds}
 use Rattle.paths.specs.Search.{Searchable, Finds}
-use Rattle.paths.specs.Reached.{ReachedDefined, reachedDue, Fillable, Copied}
+use Rattle.paths.specs.Reached.{ReachedDefined, Fillable, Copied}
 use Rattle.paths.proofs.Going.{row-marked, marked-held}
 use Rattle.paths.proofs.Steps.{chain-in, holds-uses, uses-holds}
 
@@ -152,16 +148,5 @@ module _ (rules : ℕ) (owners starts symbols costs : List ℕ) (ws : List ℕ) 
   reach-defined found seen f all is to c = copied-defined (flat rules owners starts symbols costs) (ok .well) found seen f all is ws to (ok .long) c
 
 -- `fill_reached`
-module _ (g : Flat) (ws : List ℕ) (c : Checked) (is : checkedIs c ≡ checkOf g) (e : c ≡ Well) (n : ℕ) (en : n ≡ g .rules) (x : Bool) (ex : x ≡ rowWrong n ws) where
-  pub reached-7 : x ≡ true → Call (reachedDue g ws) (Leaves (ReachedDefined g)) ws (refused 7) ws
-  reached-7 k = call-refused 7 (after-well g c _ is e ∙ rw (← en, ← ex, k))
-
-  module _ (k : x ≡ false) where
-    right : rowWrong (g .rules) ws ≡ false
-    right = ap (λ z. rowWrong z ws) (sym en) ∙ sym ex ∙ k
-
-    pub reached-fillable : Fillable g ws
-    reached-fillable = record { well = well g (sym is ∙ ap checkedIs e); long = row-long (g .rules) ws right }
-
-    pub reached-filled : (to : List ℕ) → ReachedDefined g to → Call (reachedDue g ws) (Leaves (ReachedDefined g)) ws (answers tt) to
-    reached-filled to d = call-does (answers tt) to (after-well g c _ is e ∙ rw right) (record { done = refl; left = d })
+pub reached-fillable : (g : Flat) (ws : List ℕ) (c : Checked) → RowDue g (length ws) (checkedIs c) → c ≡ Well → Fillable g ws
+reached-fillable g ws c is e = let k = one-entered rowWrong g ws c is e in record { well = k .0; long = row-long (g .rules) ws (k .1) }

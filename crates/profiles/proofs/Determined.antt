@@ -7,8 +7,8 @@ use Rattle.theory.proofs.Profile.{judged-one}
 use Rattle.grammar.specs.Flat.{Flat, denoted}
 use Rattle.grammar.specs.Outcome.{Outcome, answers, refused}
 use Rattle.tables.proofs.Calls.{Both, Alike, call-one, told-apart}
-use Rattle.firsts.specs.Lent.{lent as firsts}
-use Rattle.follows.specs.Lent.{Lent, lent, reads}
+use Rattle.engine.specs.First.{lent as firsts}
+use Rattle.engine.specs.Follow.{Lent, lent, reads}
 use Rattle.follows.proofs.Determined.{tables-one}
 use Rattle.profiles.specs.declared.Verdict.{Verdict as Answer}
 use Rattle.profiles.specs.declared.Verdict.the-variants.{Passes, Clashes, Refused}

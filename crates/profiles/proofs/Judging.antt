@@ -18,7 +18,7 @@ use Rattle.theory.proofs.Clashes.{lowest-passes, lowest-rule, lowest-low}
 use Rattle.theory.proofs.Profile.{none-passes, found-least}
 use Rattle.grammar.specs.Flat.{Flat, denoted}
 use Rattle.grammar.proofs.Denoted.{proper}
-use Rattle.firsts.specs.Lent.{Lent as Firsts}
+use Rattle.engine.specs.First.{Lent as Firsts}
 use Rattle.profiles.specs.declared.Verdict.the-variants.{Passes, Clashes}
 use Rattle.profiles.specs.Calls.{Judgeable, Clashing, Judging}
 use Rattle.profiles.specs.Rows.{Readable, Rowable, marksIn, followIn, LowestIs, LeastShared}

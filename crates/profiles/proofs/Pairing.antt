@@ -12,7 +12,7 @@ use Rattle.theory.specs.Clashes.{rowOf, pairOf}
 use Rattle.theory.proofs.Below.{Scanned, first-same}
 use Rattle.grammar.specs.Flat.{Flat, at, denoted}
 use Rattle.rows.specs.Marks.{mark, Rows}
-use Rattle.firsts.specs.Lent.{Lent as Firsts}
+use Rattle.engine.specs.First.{Lent as Firsts}
 use Rattle.profiles.specs.Rows.{rowWords, Rowable, marksIn, followIn, RowIs, Pairable, LeastShared}
 use Rattle.profiles.proofs.Turning.{shared-is}
 

@@ -17,9 +17,8 @@ use Rattle.rows.proofs.Marks.{row-whole, mark-set, marked-long, marked-small}
 use Rattle.rows.proofs.Raise.{raised-front}
 use Rattle.rows.proofs.Tables.{cleared-row, cleared-mark, view-mark}
 use Rattle.tables.specs.Sizes.{words}
-use Rattle.firsts.specs.Lent.{Lent as Firsts}
-use Rattle.firsts.specs.Step.{Ready}
-use Rattle.firsts.proofs.Stepping.{in-lists as prod-lists, walkable as first-walkable}
+use Rattle.engine.specs.First.{Lent as Firsts, Ready}
+use Rattle.engine.proofs.FirstStepping.{in-lists as prod-lists, walkable as first-walkable}
 use Rattle.profiles.specs.Rows.{rowWords, Shows, Walkable, Walked, Rowable, marksIn, followIn, RowIs}
 
 -- one row

@@ -19,7 +19,7 @@ use Rattle.theory.proofs.Profile.{row-past}
 use Rattle.grammar.specs.Flat.{Flat, at, denoted}
 use Rattle.rows.specs.Marks.{mark, Raised, Rows}
 use Rattle.rows.proofs.Tables.{cleared-mark, cleared-row}
-use Rattle.firsts.specs.Lent.{Lent as Firsts}
+use Rattle.engine.specs.First.{Lent as Firsts}
 use Rattle.profiles.specs.Rows.{rowWords, Readable, marksIn, followIn, RowIs, AboveIs, LowestIs, Turnable, Turns}
 
 -- marks that a production's row shares with those of a table h

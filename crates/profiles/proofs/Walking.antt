@@ -6,8 +6,8 @@ use native.Mathlib.Omega.{arith}
 use lib.ListN.{replicate}
 use Rattle.rows.specs.Marks.{Small}
 use Rattle.rows.proofs.Tables.{cleared-row}
-use Rattle.firsts.specs.Lent.{Lent as Firsts}
-use Rattle.firsts.proofs.Walking.{Walking, walk-start}
+use Rattle.engine.specs.First.{Lent as Firsts}
+use Rattle.engine.proofs.FirstWalking.{Walking, walk-start}
 use Rattle.profiles.specs.Rows.{rowWords, Walkable}
 
 -- a zero row

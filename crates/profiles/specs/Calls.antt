@@ -10,9 +10,9 @@ use Rattle.grammar.specs.Refusals.{unlessDue}
 use Rattle.grammar.specs.Well.{WellFormed}
 use Rattle.tables.specs.Call.{Call}
 use Rattle.firsts.specs.Calls.{Defined as FirstDefined}
-use Rattle.firsts.specs.Lent.{Lent as Firsts, lent as firsts}
+use Rattle.engine.specs.First.{Lent as Firsts, lent as firsts}
+use Rattle.engine.specs.Follow.{Lent, lent, reads}
 use Rattle.follows.specs.Calls.{lentWrong, Defined, Tables}
-use Rattle.follows.specs.Lent.{Lent, lent, reads}
 use Rattle.profiles.specs.declared.Verdict.{Verdict as Answer}
 use Rattle.profiles.specs.declared.Verdict.the-variants.{Passes, Clashes, Refused}
 use Rattle.profiles.specs.Rows.{LowestIs}

@@ -13,9 +13,8 @@ use Rattle.grammar.specs.Well.{WellFormed}
 use Rattle.rows.specs.Marks.{mark, Small}
 use Rattle.rows.specs.Tables.{Sized}
 use Rattle.tables.specs.Sizes.{words}
-use Rattle.firsts.specs.Lent.{Lent as Firsts, Held, marksOf}
-use Rattle.firsts.specs.Step.{Walkable as Forth, Walks}
-use Rattle.follows.specs.Lent.{tableOf}
+use Rattle.engine.specs.First.{Lent as Firsts, Held, marksOf, Walkable as Forth, Walks}
+use Rattle.engine.specs.Follow.{tableOf}
 
 -- the words of a row: a mark for each of 512 tokens, and one for the place of T
 abbrev pub rowWords : ℕ

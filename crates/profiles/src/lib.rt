@@ -4,7 +4,6 @@ use grammar::PIdx;
 use grammar::RIdx;
 use grammar::TIdx;
 use grammar::inner::number;
-use grammar::inner::wide;
 ghost use Rattle.grammar.specs.Flat.{flat};
 ghost use Rattle.profiles.specs.Calls.{Profile};
 
@@ -41,13 +40,20 @@ pub fn profile(
 ) -> Verdict
     ensures { λ r. ⌜ Profile (flat rules (now (owners .entry)) (now (starts .entry)) (now (symbols .entry)) (now (costs .entry))) (now (follow .entry)) (now (first .entry)) (now (empty .entry)) (now (reached .entry)) r (now (follow .exit)) (now (first .exit)) (now (empty .exit)) (now (reached .exit)) ⌝ }
 {
-    let c = grammar::check(rules, owners, starts, symbols, costs);
+    let c = follows::inner::due(
+        rules,
+        owners,
+        starts,
+        symbols,
+        costs,
+        follow.len(),
+        first.len(),
+        empty.len(),
+        reached.len(),
+    );
     let Checked::Well = c else {
         return Verdict::Refused(number(c));
     };
-    if follows::inner::wrong(wide(rules), costs.len(), follow, first, empty, reached) {
-        return Verdict::Refused(7);
-    }
     follows::inner::fill(
         rules,
         owners,

@@ -13,9 +13,9 @@ use Rattle.tables.specs.Call.{Call, Leaves}
 use Rattle.tables.specs.Sizes.{words}
 use Rattle.tables.proofs.AnyOrder.{goes}
 use Rattle.tables.proofs.Asking.{table-right, row-right, numbers-right, words-most}
-use Rattle.firsts.specs.Lent.{lent as firsts}
+use Rattle.engine.specs.First.{lent as firsts}
+use Rattle.engine.specs.Follow.{Lent, reads, lent}
 use Rattle.follows.specs.Calls.{Tables as FollowTables, fillDue}
-use Rattle.follows.specs.Lent.{Lent, reads, lent}
 use Rattle.costs.specs.Calls.{Fill as FillCost}
 use Rattle.costs.specs.Defined.{CostFillable, CostDefined}
 use Rattle.lines.specs.Lent.{tables}

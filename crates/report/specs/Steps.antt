@@ -9,9 +9,9 @@ use Rattle.tables.specs.Append.{Appended}
 use Rattle.tables.specs.Sizes.{words}
 use Rattle.tables.specs.declared.Written.{Written}
 use Rattle.tables.specs.declared.Written.the-variants.{Bytes, Refused}
-use Rattle.firsts.specs.Lent.{lent as firsts}
+use Rattle.engine.specs.First.{lent as firsts}
+use Rattle.engine.specs.Follow.{reads, lent}
 use Rattle.follows.specs.Calls.{Tables as FollowTables}
-use Rattle.follows.specs.Lent.{reads, lent}
 use Rattle.lines.specs.Line.{Entry, lineOf}
 use Rattle.lines.specs.Lent.{Tables}
 use Rattle.lines.specs.Says.{Defined, Says}

@@ -20,10 +20,9 @@ use Rattle.grammar.specs.Links.{Leads, Linked, Linkable}
 use Rattle.grammar.proofs.Forms.{Placed, placed}
 use Rattle.grammar.proofs.Linking.{linkable}
 use Rattle.rows.proofs.Tables.{cleared-at}
-use Rattle.costs.specs.Lent.{costsOf, sumOf}
-use Rattle.costs.specs.Step.{Pricing, CostReady}
-use Rattle.costs.proofs.Stepping.{cost-lists, pricing}
-use Rattle.costs.proofs.Summing.{entry}
+use Rattle.engine.specs.Cost.{costsOf, sumOf, Pricing, CostReady}
+use Rattle.engine.proofs.CostStepping.{cost-lists, pricing}
+use Rattle.engine.proofs.Summing.{entry}
 use Rattle.sentences.specs.Lent.{choicesOf}
 use Rattle.sentences.specs.Choosing.{FromReady, CheapestFrom, Choosable, FirstChoices}
 

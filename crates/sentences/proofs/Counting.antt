@@ -5,8 +5,8 @@ use Prim.Native.Nat.{ℕ, _+_, _-_, _≤_, _<_, min}
 use native.Mathlib.Omega.{arith}
 use lib.ListN.{length}
 use Rattle.grammar.specs.Flat.{at, form}
-use Rattle.costs.specs.Lent.{Part}
-use Rattle.costs.proofs.Summing.{default-same, token-part, rule-part, Summed, summed-start, summed-end, summed-unknown, summed-on}
+use Rattle.engine.specs.Cost.{Part}
+use Rattle.engine.proofs.Summing.{default-same, token-part, rule-part, Summed, summed-start, summed-end, summed-unknown, summed-on}
 use Rattle.sentences.specs.Lent.{lengthsOf}
 use Rattle.sentences.specs.Measuring.{countOf, SymbolCounted, Countable}
 

@@ -6,7 +6,7 @@ use Rattle.theory.proofs.Lengths.{lengths-one}
 use Rattle.grammar.specs.Flat.{Flat}
 use Rattle.grammar.specs.Outcome.{Outcome, answers, refused}
 use Rattle.tables.proofs.Calls.{Both, call-one, told-apart}
-use Rattle.costs.specs.Lent.{costsOf}
+use Rattle.engine.specs.Cost.{costsOf}
 use Rattle.costs.proofs.Determined.{cost-defined-one}
 use Rattle.sentences.specs.declared.Length.{Length as Answer}
 use Rattle.sentences.specs.declared.Length.the-variants.{Is, Refused}

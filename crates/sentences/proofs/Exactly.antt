@@ -15,7 +15,7 @@ use Rattle.theory.proofs.Sentences.{grounded-expands, sentence-of}
 use Rattle.grammar.specs.Flat.{Flat, denoted, price}
 use Rattle.grammar.specs.Outcome.{Outcome, answers, refused}
 use Rattle.grammar.proofs.Outcomes.{not-both, refused-one, answers-one}
-use Rattle.costs.specs.Lent.{costsOf}
+use Rattle.engine.specs.Cost.{costsOf}
 use Rattle.costs.proofs.Exactly.{Dear, Least, kinds}
 use Rattle.sentences.specs.Lent.{lengthsOf}
 use Rattle.sentences.specs.Query.{Lends, Says, Sentenced}

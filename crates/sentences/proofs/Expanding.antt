@@ -18,7 +18,7 @@ use Rattle.grammar.proofs.Denoted.{proper}
 use Rattle.grammar.proofs.Forms.{form-done, form-token, form-rule, prod-in, Placed, placed}
 use Rattle.tables.specs.Append.{Appended}
 use Rattle.tables.proofs.Appending.{appended-long, appended-none, appended-one, appended-then, appended-before, appended-there}
-use Rattle.costs.proofs.Summing.{default-same}
+use Rattle.engine.proofs.Summing.{default-same}
 use Rattle.sentences.specs.Lent.{choicesOf, lengthsOf}
 use Rattle.sentences.specs.Expanding.{Leads, Copyable, notWritten, Stood, Remembers, Wrote, RuleReady, ProductionReady}
 use Rattle.sentences.proofs.Counting.{length-entry}

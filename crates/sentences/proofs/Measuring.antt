@@ -22,7 +22,7 @@ use Rattle.grammar.specs.Well.{WellFormed}
 use Rattle.grammar.proofs.Denoted.{proper}
 use Rattle.grammar.proofs.Forms.{prod-in, Placed, placed}
 use Rattle.rows.proofs.Tables.{cleared-at}
-use Rattle.costs.proofs.Summing.{default-same}
+use Rattle.engine.proofs.Summing.{default-same}
 use Rattle.tables.specs.Call.{Stepped}
 use Rattle.tables.proofs.Stepping.{Stepping, round-start, round-held, round-on, round-end, settle-start, settle-held, settle-inv, settle-on, settle-end, settle-less}
 use Rattle.sentences.specs.Lent.{choicesOf, lengthsOf}

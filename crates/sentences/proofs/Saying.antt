@@ -22,10 +22,10 @@ use Rattle.theory.proofs.Sentences.{expands-grounded}
 use Rattle.grammar.specs.Flat.{Flat, at, denoted, price}
 use Rattle.grammar.specs.Outcome.{answers, refused}
 use Rattle.grammar.proofs.Denoted.{proper}
-use Rattle.costs.specs.Lent.{costsOf}
+use Rattle.engine.specs.Cost.{costsOf}
+use Rattle.engine.proofs.Summing.{entry}
 use Rattle.costs.specs.Query.{entryDue}
 use Rattle.costs.proofs.Entry.{due-cost, due-none, due-12, due-13}
-use Rattle.costs.proofs.Summing.{entry}
 use Rattle.tables.specs.Append.{Appended}
 use Rattle.sentences.specs.Lent.{choicesOf, lengthsOf}
 use Rattle.sentences.specs.Expanding.{RuleReady, Wrote}

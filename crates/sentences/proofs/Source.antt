@@ -20,7 +20,7 @@ use Rattle.grammar.specs.Refusals.{sizesOut, falls, startsWrong, ownerOut, owns
 use Rattle.grammar.specs.Well.{Built}
 use Rattle.grammar.proofs.Denoted.{proper}
 use Rattle.grammar.proofs.Well.{well}
-use Rattle.costs.specs.Lent.{costsOf}
+use Rattle.engine.specs.Cost.{costsOf}
 use Rattle.sentences.specs.declared.Length.{Length as Answer}
 use Rattle.sentences.specs.Query.{lengthIs, Lends, lends, sentenceDue, Writes, Sentenced, MinSentence}
 

@@ -2,7 +2,7 @@
 use mathlib.Core.List.{List}
 use Prim.Native.Nat.{ℕ}
 use Rattle.grammar.specs.Flat.{Flat}
-use Rattle.costs.specs.Lent.{costsOf}
+use Rattle.engine.specs.Cost.{costsOf}
 use Rattle.costs.specs.Defined.{CostDefined}
 use Rattle.sentences.specs.Choosing.{FirstChoices}
 use Rattle.sentences.specs.Measuring.{LengthFillable, LengthsBy}

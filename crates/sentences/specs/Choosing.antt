@@ -8,7 +8,7 @@ use Rattle.theory.specs.Levels.{suits, Chosen}
 use Rattle.grammar.specs.Flat.{Flat, at, denoted, price}
 use Rattle.grammar.specs.Links.{Leads}
 use Rattle.grammar.specs.Well.{WellFormed}
-use Rattle.costs.specs.Lent.{costsOf}
+use Rattle.engine.specs.Cost.{costsOf}
 use Rattle.sentences.specs.Lent.{choicesOf}
 
 -- what going up a rule's productions asks: a well-formed grammar, a cost for each rule, each production linked to the next of its rule, and p one of rule r's or past the last

@@ -3,12 +3,12 @@ use crate::LENGTH_LONG;
 use crate::LENGTH_MAX;
 use crate::Length;
 use costs::inner::cost_fill;
-use costs::inner::entry_at;
 use costs::inner::entry_due;
+use engine::inner::cost::entry_at;
 use grammar::inner::wide;
 ghost use mathlib.Core.Path.{_≡_};
 ghost use Rattle.grammar.specs.Flat.{flat};
-ghost use Rattle.costs.specs.Lent.{costsOf};
+ghost use Rattle.engine.specs.Cost.{costsOf};
 ghost use Rattle.sentences.specs.Query.{lengthIs, Says};
 ghost use Rattle.sentences.specs.Working.{Workable, Worked, Finished};
 

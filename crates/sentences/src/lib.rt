@@ -3,7 +3,9 @@
 use grammar::Checked;
 use grammar::RIdx;
 use grammar::inner::number;
+use grammar::inner::unless;
 use grammar::inner::wide;
+use tables::inner::numbers_due;
 use tables::inner::numbers_wrong;
 ghost use Rattle.grammar.specs.Flat.{flat};
 ghost use Rattle.sentences.specs.Query.{MinSentence};
@@ -40,18 +42,13 @@ pub fn min_sentence(
 ) -> Length
     ensures { λ r. ⌜ MinSentence (flat rules (now (owners .entry)) (now (starts .entry)) (now (symbols .entry)) (now (costs .entry))) (rule .0) (now (cost .entry)) (now (lengths .entry)) (now (out .entry)) r (now (cost .exit)) (now (lengths .exit)) (now (out .exit)) ⌝ }
 {
-    let c = grammar::check(rules, owners, starts, symbols, costs);
-    let Checked::Well = c else {
-        return Length::Refused(number(c));
-    };
-    let n = wide(rules);
-    if numbers_wrong(n, cost) | numbers_wrong(n, lengths) {
-        return Length::Refused(7);
-    }
     let r = wide(rule.0);
-    if n <= r {
-        return Length::Refused(9);
-    }
+    let c = numbers_due(rules, owners, starts, symbols, costs, cost.len());
+    let d = unless(c, numbers_wrong(rules, lengths.len()), 7);
+    let e = unless(d, rules <= rule.0, 9);
+    let Checked::Well = e else {
+        return Length::Refused(number(e));
+    };
     let mut choice = [4096; 512];
     inner::work(
         rules,

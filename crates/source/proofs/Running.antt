@@ -12,10 +12,10 @@ use lib.ListN.{drop}
 use borrow.Author.Tests.{eqb-true, leb-true, le-leb, ne-eqb, not-true, not-false}
 use Rattle.theory.specs.Below.{some as someBelow}
 use Rattle.theory.specs.Grammar.{tok, rul, Form, Grammar}
-use Rattle.theory.specs.Visits.{Costs, Row, formCost}
+use Rattle.theory.specs.Visits.{Costs, formCost}
 use Rattle.theory.proofs.Below.{some-found, none-at}
-use Rattle.theory.proofs.Bools.{and-split, and-join, or-split, or-none, same, same-is}
-use Rattle.source.specs.Costs.{State, start, prods, put, settle, rule, Round, over, skip, work, Returns, all-done, again}
+use Rattle.theory.proofs.Bools.{and-split, and-join, or-split, or-none, tested, same, same-is}
+use Rattle.source.specs.Costs.{State, start, prods, settle, rule, Round, over, skip, work, Returns, all-done, again}
 use Rattle.source.specs.Order.{rising, rule-to-prods, iter-rules}
 use Rattle.source.specs.Sentence as Sentence
 
@@ -49,8 +49,7 @@ module _ (g : Grammar) (k : ℕ → ℕ) where
   fits-at c [] e p m = absurd (List·Memᴰ·not-nil m)
   fits-at c (q ∷ ps) e p m =
       let s = and-split (leb (formCost k c (g .body q)) 65535) _ e in
-      let ih : List·Memᴰ p ps → formCost k c (g .body p) ≤ 65535 = fits-at c ps (s .1) p in
-      elim (List·Memᴰ·cases-cons m) [ inl d ↦ rw d (leb-true _ 65535 (s .0)) | inr n ↦ ih n ]
+      elim (List·Memᴰ·cases-cons m) [ inl d ↦ rw d (leb-true _ 65535 (s .0)) | inr n ↦ fits-at c ps (s .1) p n ]
 
   fits-all : (c : Costs) (ps : List ℕ) → ((p : ℕ) → List·Memᴰ p ps → formCost k c (g .body p) ≤ 65535) → fits c ps ≡ true
   fits-all c [] h = refl
@@ -63,11 +62,10 @@ module _ (g : Grammar) (k : ℕ → ℕ) where
 
   turn-round : (is : List ℕ) (s : State) {t : State} → turn is s ≡ some t → Round g k is s t
   turn-round [] s {t} e = subst (λ z. Round g k [] s z) (Option·some-injective s t e) over
-  turn-round (i ∷ is) s {t} e = go (λ u h. turn-round is u h) (s .done i) refl e
-    where
-      go : ((u : State) → turn is u ≡ some t → Round g k is u t) → (b : Bool) → s .done i ≡ b → cond b (turn is s) (given (fits (s .costs) (rule-to-prods g i)) (turn is (rule g k i s))) ≡ some t → Round g k (i ∷ is) s t
-      go ih true d h = skip d (ih s h)
-      go ih false d h = let x = given-so (fits (s .costs) (rule-to-prods g i)) _ h in work d (fits-at (s .costs) (rule-to-prods g i) (x .0)) (ih (rule g k i s) (x .1))
+  turn-round (i ∷ is) s {t} e = elim (tested (s .done i)) [
+    | inl d ↦ skip d (turn-round is s (rw d at e))
+    | inr d ↦ let x = given-so (fits (s .costs) (rule-to-prods g i)) _ (rw d at e) in work d (fits-at (s .costs) (rule-to-prods g i) (x .0)) (turn-round is (rule g k i s) (x .1))
+  ]
 
   round-turn : {is : List ℕ} {s t : State} → Round g k is s t → turn is s ≡ some t
   round-turn over = refl
@@ -90,14 +88,13 @@ module _ (g : Grammar) (k : ℕ → ℕ) where
   costs-return zero s {c} e =
       let x = given-so (not (unfinished s)) _ e in
       subst (λ z. Returns g k s z) (Option·some-injective (s .costs) c (x .1)) (all-finished s (not-true _ (x .0)))
-  costs-return (suc n) s {c} e = go (λ t h. costs-return n t h) (unfinished s) refl e
-    where
-      go : ((t : State) → costsIn n t ≡ some c → Returns g k t c) → (b : Bool) → unfinished s ≡ b → cond b (onto (turn (iter-rules g) s) (λ t. costsIn n t)) (some (s .costs)) ≡ some c → Returns g k s c
-      go ih false u h = subst (λ z. Returns g k s z) (Option·some-injective (s .costs) c h) (all-finished s u)
-      go ih true u h =
-          let x = onto-given (turn (iter-rules g) s) _ h in
-          let r = some-found (λ r. not (s .done r)) (g .rules) u in
-          again (r .0) (r .1) (not-true _ (r .2)) (turn-round (iter-rules g) s (x .1)) (ih (x .0) (x .2))
+  costs-return (suc n) s {c} e = elim (tested (unfinished s)) [
+    | inr u ↦ subst (λ z. Returns g k s z) (Option·some-injective (s .costs) c (rw u at e)) (all-finished s u)
+    | inl u ↦
+        let x = onto-given (turn (iter-rules g) s) _ (rw u at e) in
+        let r = some-found (λ r. not (s .done r)) (g .rules) u in
+        again (r .0) (r .1) (not-true _ (r .2)) (turn-round (iter-rules g) s (x .1)) (costs-return n (x .0) (x .2))
+  ]
 
   -- the turn of a rule changes nothing of another one, and a turn of the loop nothing past the rules
   pub record Past (s t : State) (r : ℕ) : Type 0 where
@@ -108,11 +105,7 @@ module _ (g : Grammar) (k : ℕ → ℕ) where
   settle-past i none none s r e = record { costs = refl; done = refl }
   settle-past i none (some b) s r e = record { costs = rw e; done = refl }
   settle-past i (some a) none s r e = record { costs = rw e; done = rw e }
-  settle-past i (some a) (some b) s r e = go (ltb a b)
-    where
-      go : (x : Bool) → Past s (cond x (record { costs = put i a (s .costs); done = put i true (s .done) }) (record { costs = put i b (s .costs); done = s .done })) r
-      go true = record { costs = rw e; done = rw e }
-      go false = record { costs = rw e; done = refl }
+  settle-past i (some a) (some b) s r e = elim (tested (ltb a b)) [ inl x ↦ rw x (record { costs = rw e; done = rw e }) | inr x ↦ rw x (record { costs = rw e; done = refl }) ]
 
   rule-past : (i : ℕ) (s : State) (r : ℕ) → eqb r i ≡ false → Past s (rule g k i s) r
   rule-past i s r e =
@@ -121,15 +114,14 @@ module _ (g : Grammar) (k : ℕ → ℕ) where
 
   turn-past : (n i : ℕ) (s : State) {t : State} → turn (rising n i) s ≡ some t → (r : ℕ) → i + n ≤ r → Past s t r
   turn-past zero i s {t} e r l = let q = Option·some-injective s t e in record { costs = ap (λ (z : State). z .costs r) (sym q); done = ap (λ (z : State). z .done r) (sym q) }
-  turn-past (suc n) i s {t} e r l = go (λ u h. turn-past n (suc i) u h r (omega arith)) (s .done i) e
-    where
-      go : ((u : State) → turn (rising n (suc i)) u ≡ some t → Past u t r) → (b : Bool) → cond b (turn (rising n (suc i)) s) (given (fits (s .costs) (rule-to-prods g i)) (turn (rising n (suc i)) (rule g k i s))) ≡ some t → Past s t r
-      go ih true h = ih s h
-      go ih false h =
-          let x = given-so (fits (s .costs) (rule-to-prods g i)) _ h in
-          let p = ih (rule g k i s) (x .1) in
-          let q = rule-past i s r (ne-eqb r i (λ d. omega (arith, d))) in
-          record { costs = p .costs ∙ q .costs; done = p .done ∙ q .done }
+  turn-past (suc n) i s {t} e r l = elim (tested (s .done i)) [
+    | inl d ↦ turn-past n (suc i) s (rw d at e) r (omega arith)
+    | inr d ↦
+        let x = given-so (fits (s .costs) (rule-to-prods g i)) _ (rw d at e) in
+        let p = turn-past n (suc i) (rule g k i s) (x .1) r (omega arith) in
+        let q = rule-past i s r (ne-eqb r i (λ d. omega (arith, d))) in
+        record { costs = p .costs ∙ q .costs; done = p .done ∙ q .done }
+  ]
 
   -- the same costs and the same rules done
   abbrev pub sameState : State → State → Bool
@@ -216,17 +208,14 @@ module _ (g : Grammar) (k : ℕ → ℕ) (asked : Bool) (c : Costs) where
 
   plain-holds : (α : Form) → plain α ≡ true → (s : ℕ) → List·Memᴰ (rul s) α → ⊥
   plain-holds [] e s m = List·Memᴰ·not-nil m
-  plain-holds (tok t ∷ α) e s m =
-      let ih : List·Memᴰ (rul s) α → ⊥ = plain-holds α e s in
-      elim (List·Memᴰ·cases-cons m) [ inl d ↦ let z : _≡_ {A = ℕ} 0 1 = cc in omega arith | inr n ↦ ih n ]
+  plain-holds (tok t ∷ α) e s m = elim (List·Memᴰ·cases-cons m) [ inl d ↦ let z : _≡_ {A = ℕ} 0 1 = cc in omega arith | inr n ↦ plain-holds α e s n ]
   plain-holds (rul r ∷ α) e s m = false≢true e
 
   all-plain : (ps : List ℕ) → allPlain ps ≡ true → (p : ℕ) → List·Memᴰ p ps → plain (g .body p) ≡ true
   all-plain [] e p m = absurd (List·Memᴰ·not-nil m)
   all-plain (q ∷ ps) e p m =
       let s = and-split (plain (g .body q)) _ e in
-      let ih : List·Memᴰ p ps → plain (g .body p) ≡ true = all-plain ps (s .1) p in
-      elim (List·Memᴰ·cases-cons m) [ inl d ↦ rw d (s .0) | inr n ↦ ih n ]
+      elim (List·Memᴰ·cases-cons m) [ inl d ↦ rw d (s .0) | inr n ↦ all-plain ps (s .1) p n ]
 
   module _ (ret : asked ≡ true → Returns g k start c) where
     cheapest-is : (r : ℕ) {p : ℕ} → cheapest r ≡ some p → Sentence.Cheapest g k c r p

@@ -1,11 +1,12 @@
 -- The source's `min_sentences`: where it returns, its result is the list, in its order, and the rule is not circular.
 use mathlib.Core.Bool.{Bool, true, false, cond, not, _&&_, _||_, false≢true}
-use mathlib.Core.List.{List, [], _∷_, _++_, map, append-nil, append-assoc, cons≢nil, List·Memᴰ, List·Memᴰ·head, List·Memᴰ·tail}
+use mathlib.Core.List.{List, [], _∷_, _++_, map, map-append, map-map, append-nil, append-assoc, cons≢nil, List·Memᴰ, List·Memᴰ·head, List·Memᴰ·tail}
 use mathlib.Core.Logic.{inl, inr}
 use mathlib.Core.Option.{Option, none, some}
 use mathlib.Core.Path.{_≡_, refl, sym, _∙_, ap, ap₂, subst}
 use Prim.Native.Nat.{ℕ, zero, suc, _+_, _*_, _-_, _≤_, _<_}
 use native.Mathlib.Nat.{not-suc-le-zero, eq-or-lt-of-le, le-of-suc-le-suc, suc-mul, zero-mul}
+use native.Mathlib.Numerals.{add-one}
 use native.Mathlib.Omega.{arith}
 use lib.Dec.{eqb, leb, ltb}
 use lib.ListN.{length, length-append, length-map, getD, drop, set, replicate, drop-of-length-le, List·getD-append}
@@ -18,15 +19,15 @@ use Rattle.theory.specs.Levels.{suits}
 use Rattle.theory.specs.Cheapest.{Circular}
 use Rattle.theory.specs.Listing.{Item, before, joined, by, pairs, choices, part, below, listing, listed, allBelow, deep}
 use Rattle.theory.specs.Odometer.{product, Fits, Last, zeros, turns, Carrying}
-use Rattle.theory.proofs.Bools.{and-split, and-join, eqb-turned}
+use Rattle.theory.proofs.Bools.{and-split, and-join, tested, fails, eqb-turned}
 use Rattle.theory.proofs.Sentences.{owner-least, cost-owned}
 use Rattle.theory.proofs.Counts.{listing-some}
 use Rattle.theory.proofs.Depth.{deep-priced, deep-not-circular, deep-or-circular, deep-enough, listing-same}
-use Rattle.theory.proofs.Odometer.{turns-below, turns-zeros, turns-last, carry-start, carry-below, carry-fits, carry-turns, carry-on, fits-length}
+use Rattle.theory.proofs.Odometer.{getD-map, turns-below, turns-zeros, turns-last, carry-start, carry-below, carry-fits, carry-turns, carry-on, fits-length}
 use Rattle.source.specs.Costs as Costs
-use Rattle.source.proofs.Order.{prods-all}
+use Rattle.source.proofs.Order.{loop-keeps, prods-all}
 use Rattle.source.proofs.Sentence.{same-prod}
-use Rattle.source.specs.Order.{rising, owned, rule-to-prods}
+use Rattle.source.specs.Order.{rule-to-prods}
 use Rattle.source.specs.Sentence.{Sums}
 use Rattle.source.specs.Sentences.{Lows, unset, prod, prods, CheapestProds, cur, carry, Loop, break-b, again, Gathers, over, token, rule, Pushes, stop, empty, works, Runs, Returns}
 
@@ -37,26 +38,25 @@ module _ (bs ds₀ : List ℕ) (fit : Fits bs ds₀) where
   Carried none = Last bs ds₀
   Carried (some ds) = Fits bs ds × (turns bs ds ≡ suc (turns bs ds₀))
 
+  -- place j is not at its last: it goes up
+  carried-up : (j : ℕ) (ds : List ℕ) → Carrying bs ds₀ (suc j) ds → eqb (getD ds j 0 + 1) (getD bs j 0) ≡ false → Carried (some (set ds j (getD ds j 0 + 1)))
+  carried-up j ds c e =
+      let l : suc (getD ds j 0) < getD bs j 0 = omega (arith, eqb-false (getD ds j 0 + 1) (getD bs j 0) e, carry-below bs ds₀ fit j ds c) in
+      rw add-one (carry-fits bs ds₀ fit j ds c l, carry-turns bs ds₀ fit j ds c)
+
   carried : (j : ℕ) (ds : List ℕ) → Carrying bs ds₀ (suc j) ds → Carried (carry bs ds j)
-  carried zero ds c = go (eqb (getD ds 0 0 + 1) (getD bs 0 0)) refl
-    where
-      go : (b : Bool) → eqb (getD ds 0 0 + 1) (getD bs 0 0) ≡ b → Carried (cond b none (some (set ds 0 (getD ds 0 0 + 1))))
-      go true e = carry-on bs ds₀ fit 0 ds c (omega (arith, eqb-true (getD ds 0 0 + 1) (getD bs 0 0) e)) .last
-      go false e =
-          let l : suc (getD ds 0 0) < getD bs 0 0 = omega (arith, eqb-false (getD ds 0 0 + 1) (getD bs 0 0) e, carry-below bs ds₀ fit 0 ds c) in
-          let v : getD ds 0 0 + 1 ≡ suc (getD ds 0 0) = omega arith in
-          (subst (λ z. Fits bs (set ds 0 z)) (sym v) (carry-fits bs ds₀ fit 0 ds c l), ap (λ z. turns bs (set ds 0 z)) v ∙ carry-turns bs ds₀ fit 0 ds c)
-  carried (suc j) ds c =
-      let ih : Carrying bs ds₀ (suc j) (set ds (suc j) 0) → Carried (carry bs (set ds (suc j) 0) j) = carried j (set ds (suc j) 0) in
-      go (eqb (getD ds (suc j) 0 + 1) (getD bs (suc j) 0)) refl ih
-    where
-      go : (b : Bool) → eqb (getD ds (suc j) 0 + 1) (getD bs (suc j) 0) ≡ b → (Carrying bs ds₀ (suc j) (set ds (suc j) 0) → Carried (carry bs (set ds (suc j) 0) j))
-          → Carried (cond b (carry bs (set ds (suc j) 0) j) (some (set ds (suc j) (getD ds (suc j) 0 + 1))))
-      go true e ih = ih (carry-on bs ds₀ fit (suc j) ds c (omega (arith, eqb-true (getD ds (suc j) 0 + 1) (getD bs (suc j) 0) e)))
-      go false e ih =
-          let l : suc (getD ds (suc j) 0) < getD bs (suc j) 0 = omega (arith, eqb-false (getD ds (suc j) 0 + 1) (getD bs (suc j) 0) e, carry-below bs ds₀ fit (suc j) ds c) in
-          let v : getD ds (suc j) 0 + 1 ≡ suc (getD ds (suc j) 0) = omega arith in
-          (subst (λ z. Fits bs (set ds (suc j) z)) (sym v) (carry-fits bs ds₀ fit (suc j) ds c l), ap (λ z. turns bs (set ds (suc j) z)) v ∙ carry-turns bs ds₀ fit (suc j) ds c)
+  carried zero ds c = elim (tested (eqb (getD ds 0 0 + 1) (getD bs 0 0))) [
+    | inl e ↦ rw e (carry-on bs ds₀ fit 0 ds c (omega (arith, eqb-true (getD ds 0 0 + 1) (getD bs 0 0) e)) .last)
+    | inr e ↦ rw e (carried-up 0 ds c e)
+  ]
+  carried (suc j) ds c = elim (tested (eqb (getD ds (suc j) 0 + 1) (getD bs (suc j) 0))) [
+    | inl e ↦ rw e (carried j (set ds (suc j) 0) (carry-on bs ds₀ fit (suc j) ds c (omega (arith, eqb-true (getD ds (suc j) 0 + 1) (getD bs (suc j) 0) e))))
+    | inr e ↦ rw e (carried-up (suc j) ds c e)
+  ]
+
+  -- from the last place
+  carried-all : 0 < length bs → Carried (carry bs ds₀ (length ds₀ - 1))
+  carried-all l = carried (length ds₀ - 1) ds₀ (subst (λ (z : ℕ). Carrying bs ds₀ z ds₀) {x = length ds₀} {y = suc (length ds₀ - 1)} (omega (arith, fits-length bs ds₀ fit)) (carry-start bs ds₀ fit (length ds₀) (fits-length bs ds₀ fit)))
 
 -- the sentences of a list of lists, the last turning fastest
 abbrev together : List (List ℕ) → List (List ℕ) → List (List ℕ)
@@ -75,17 +75,12 @@ length-mixed : (ms : List (List (List ℕ))) → length (mixed ms) ≡ product (
 length-mixed [] = refl
 length-mixed (m ∷ ms) = length-together m (mixed ms) ∙ ap (λ (z : ℕ). length m * z) (length-mixed ms)
 
-getD-map : (f : List ℕ → List ℕ) (l : List (List ℕ)) (i : ℕ) → i < length l → getD (map f l) i [] ≡ f (getD l i [])
-getD-map f [] i h = absurd (not-suc-le-zero h)
-getD-map f (x ∷ l) zero h = refl
-getD-map f (x ∷ l) (suc i) h = getD-map f l i (le-of-suc-le-suc h)
-
 together-at : (xs ys : List (List ℕ)) (i j : ℕ) → i < length xs → j < length ys → getD (together xs ys) (i * length ys + j) [] ≡ getD xs i [] ++ getD ys j []
 together-at [] ys i j l m = absurd (not-suc-le-zero l)
 together-at (x ∷ xs) ys zero j l m =
     ap (λ (z : ℕ). getD (map (λ y. x ++ y) ys ++ together xs ys) z []) {x = 0 * length ys + j} {y = j} (omega (arith, zero-mul (length ys)))
     ∙ List·getD-append (map (λ y. x ++ y) ys) (together xs ys) [] j (omega (arith, length-map ys (λ y. x ++ y)))
-    ∙ getD-map (λ y. x ++ y) ys j m
+    ∙ getD-map (λ y. x ++ y) ys j [] [] m
 together-at (x ∷ xs) ys (suc i) j l m =
     ap (λ (z : ℕ). getD (map (λ y. x ++ y) ys ++ together xs ys) z []) {x = suc i * length ys + j} {y = length (map (λ y. x ++ y) ys) + (i * length ys + j)}
     (omega (arith, suc-mul i (length ys), length-map ys (λ y. x ++ y)))
@@ -103,19 +98,16 @@ cur-at (m ∷ ms) (d ∷ ds) f =
     ∙ ap (λ z. getD m d [] ++ z) (cur-at ms ds (f .1))
 
 -- the loop pushes what is left of them
-loop-list : (ms : List (List (List ℕ))) (some-m : 0 < length (map length ms)) {ds : List ℕ} {out : List (List ℕ)} → Fits (map length ms) ds → length ds ≡ length (map length ms) → Loop ms ds out → out ≡ drop (turns (map length ms) ds) (mixed ms)
-loop-list ms sm {ds} f len (break-b e) =
+loop-list : (ms : List (List (List ℕ))) (some-m : 0 < length (map length ms)) {ds : List ℕ} {out : List (List ℕ)} → Fits (map length ms) ds → Loop ms ds out → out ≡ drop (turns (map length ms) ds) (mixed ms)
+loop-list ms sm {ds} f (break-b e) =
     let bs = map length ms in
-    let c = carry-start bs ds f (length ds) len in
-    let l = subst (λ z. Carried bs ds f z) e (carried bs ds f (length ds - 1) ds (subst (λ (z : ℕ). Carrying bs ds z ds) {x = length ds} {y = suc (length ds - 1)} (omega arith) c)) in
-    let t = turns-last bs ds l in
+    let t = turns-last bs ds (subst (λ z. Carried bs ds f z) e (carried-all bs ds f sm)) in
     ap₂ (λ (y : List ℕ) (z : List (List ℕ)). y ∷ z) (sym (cur-at ms ds f)) (sym (drop-of-length-le (mixed ms) {i = suc (turns bs ds)} (omega (arith, length-mixed ms))))
     ∙ sym (drop-cons (mixed ms) (turns bs ds) [] (omega (arith, length-mixed ms)))
-loop-list ms sm {ds} f len (again {todo′ = ds′} {out = out} e y) =
+loop-list ms sm {ds} f (again e y) =
     let bs = map length ms in
-    let c = carry-start bs ds f (length ds) len in
-    let l = subst (λ z. Carried bs ds f z) e (carried bs ds f (length ds - 1) ds (subst (λ (z : ℕ). Carrying bs ds z ds) {x = length ds} {y = suc (length ds - 1)} (omega arith) c)) in
-    let i = loop-list ms sm (l .0) (fits-length bs ds′ (l .0)) y in
+    let l = subst (λ z. Carried bs ds f z) e (carried-all bs ds f sm) in
+    let i = loop-list ms sm (l .0) y in
     ap₂ (λ (y : List ℕ) (z : List (List ℕ)). y ∷ z) (sym (cur-at ms ds f)) (i ∙ ap (λ (z : ℕ). drop z (mixed ms)) (l .1))
     ∙ sym (drop-cons (mixed ms) (turns bs ds) [] (omega (arith, turns-below bs ds f, length-mixed ms)))
 
@@ -144,12 +136,7 @@ module _ (g : Grammar) (k : ℕ → ℕ) (c : Costs) (r : ℕ) where
   test-yes m p o e = and-join (eq-eqb (g .owner p) r o) (eq-eqb (cost p) m e)
 
   test-no : (m p : ℕ) → (g .owner p ≡ r → cost p ≡ m → ⊥) → test m p ≡ false
-  test-no m p h = go (eqb (g .owner p) r) refl (eqb (cost p) m) refl
-    where
-      go : (a : Bool) → eqb (g .owner p) r ≡ a → (b : Bool) → eqb (cost p) m ≡ b → (a && b) ≡ false
-      go false e b d = refl
-      go true e false d = refl
-      go true e true d = absurd (h (eqb-true (g .owner p) r e) (eqb-true (cost p) m d))
+  test-no m p h = fails _ (λ e. let s = and-split (eqb (g .owner p) r) _ e in h (eqb-true (g .owner p) r (s .0)) (eqb-true (cost p) m (s .1)))
 
   -- of r's productions below j: none, or those of the lowest sum m
   data Lowest (j : ℕ) (l : Lows) : Type 0 where
@@ -196,19 +183,8 @@ module _ (g : Grammar) (k : ℕ → ℕ) (c : Costs) (r : ℕ) where
       (has .0, omega (arith, has .1), has .2, has .3)
       (e ∙ ap (λ (z : List ℕ). record { sc = some m; idxs = z }) (sym (append-nil (those (test m) j)) ∙ ap (λ (b : Bool). those (test m) j ++ cond b (j ∷ []) []) (sym (test-no m j (λ u v. o u)))))
 
-  low-all : (n j : ℕ) (l : Lows) → Lowest j l → Lowest (n + j) (prods g k c (owned g r (rising n j)) l)
-  low-all zero j l f = subst (λ z. Lowest z l) {x = j} {y = 0 + j} (omega arith) f
-  low-all (suc n) j l f =
-      let ih : (m : Lows) → Lowest (suc j) m → Lowest (suc n + j) (prods g k c (owned g r (rising n (suc j))) m) = λ m h. subst (λ z. Lowest z (prods g k c (owned g r (rising n (suc j))) m)) {x = n + suc j} {y = suc n + j} (omega arith) (low-all n (suc j) m h) in
-      go (eqb (g .owner j) r) refl ih
-    where
-      go : (b : Bool) → eqb (g .owner j) r ≡ b → ((m : Lows) → Lowest (suc j) m → Lowest (suc n + j) (prods g k c (owned g r (rising n (suc j))) m))
-          → Lowest (suc n + j) (prods g k c (cond b (j ∷ owned g r (rising n (suc j))) (owned g r (rising n (suc j)))) l)
-      go true e ih = ih (prod g k c j l) (low-own j l (eqb-true (g .owner j) r e) f)
-      go false e ih = ih l (low-other j l (eqb-false (g .owner j) r e) f)
-
   lowest : Lowest (g .prods) (prods g k c (rule-to-prods g r) unset)
-  lowest = subst (λ z. Lowest z (prods g k c (rule-to-prods g r) unset)) {x = g .prods + 0} {y = g .prods} (omega arith) (low-all (g .prods) 0 unset (nothing′ (λ q l. absurd (not-suc-le-zero l)) refl))
+  lowest = loop-keeps g r (prod g k c) (prods g k c) (λ l. refl) (λ p ps l. refl) Lowest low-own low-other unset (nothing′ (λ q l. absurd (not-suc-le-zero l)) refl)
 
 -- what the productions of two lists push
 record Parted (g : Grammar) (Call : ℕ → List (List ℕ) → Type 0) (ps qs : List ℕ) (sts : List (List ℕ)) : Type 0 where
@@ -235,27 +211,15 @@ abbrev words : List Item → List (List ℕ)
 words xs = map (λ x. x .tokens) xs
 
 words-append : (xs ys : List Item) → words (xs ++ ys) ≡ words xs ++ words ys
-words-append [] ys = refl
-words-append (x ∷ xs) ys = ap (λ z. x .tokens ∷ z) (words-append xs ys)
-
-words-by : (p : ℕ) (xs : List Item) → words (map (by p) xs) ≡ words xs
-words-by p [] = refl
-words-by p (x ∷ xs) = ap (λ z. x .tokens ∷ z) (words-by p xs)
-
-words-joined : (x : Item) (ys : List Item) → words (map (joined x) ys) ≡ map (λ w. x .tokens ++ w) (words ys)
-words-joined x [] = refl
-words-joined x (y ∷ ys) = ap (λ z. (x .tokens ++ y .tokens) ∷ z) (words-joined x ys)
+words-append = map-append (λ x. x .tokens)
 
 words-pairs : (xs ys : List Item) → words (pairs xs ys) ≡ together (words xs) (words ys)
 words-pairs [] ys = refl
-words-pairs (x ∷ xs) ys = words-append (map (joined x) ys) (pairs xs ys) ∙ ap₂ _++_ (words-joined x ys) (words-pairs xs ys)
+words-pairs (x ∷ xs) ys = words-append (map (joined x) ys) (pairs xs ys) ∙ ap₂ _++_ (map-map (λ y. y .tokens) (joined x) ys ∙ sym (map-map (λ w. x .tokens ++ w) (λ y. y .tokens) ys)) (words-pairs xs ys)
 
 words-before : (t : ℕ) (xs : List Item) → words (map (before t) xs) ≡ together ((t ∷ []) ∷ []) (words xs)
 words-before t [] = refl
 words-before t (x ∷ xs) = ap (λ z. (t ∷ x .tokens) ∷ z) (words-before t xs)
-
-length-words : (xs : List Item) → length (words xs) ≡ length xs
-length-words xs = length-map xs (λ x. x .tokens)
 
 -- `vec![0; prod.len()]`
 replicate-zeros : (n : ℕ) (bs : List ℕ) → n ≡ length bs → replicate n 0 ≡ zeros bs
@@ -294,13 +258,11 @@ module _ (g : Grammar) (k : ℕ → ℕ) (ok : Proper g) (own : (r : ℕ) → r 
           let least-of = owner-least g k c ok x (has .0) (has .1) in
           let owner-of = ap c (has .2) in
           let same : m ≡ c r = omega (arith, least (w .0) (w .1) (w .2), w .3, same-of (w .0) (w .1) (w .2), has .3, same-of (has .0) (has .1) (has .2)) in
-          ap (λ z. z .idxs) e ∙ those-same (test g k b r m) (suits g k c r) (g .prods) (λ p l. agree same p l (eqb (g .owner p) r) refl)
+          ap (λ z. z .idxs) e ∙ those-same (test g k b r m) (suits g k c r) (g .prods) (λ p l. elim (tested (eqb (g .owner p) r)) [ inl o ↦ agree same p l o | inr o ↦ rw (o, eqb-turned r (g .owner p), o) ])
         where
-          agree : m ≡ c r → (p : ℕ) → p < g .prods → (t : Bool) → eqb (g .owner p) r ≡ t → test g k b r m p ≡ suits g k c r p
-          agree same p l true o = ap₂ _&&_ (eqb-turned (g .owner p) r)
+          agree : m ≡ c r → (p : ℕ) → p < g .prods → eqb (g .owner p) r ≡ true → test g k b r m p ≡ suits g k c r p
+          agree same p l o = ap₂ _&&_ (eqb-turned (g .owner p) r)
               (ap₂ eqb (same-of p l (eqb-true (g .owner p) r o)) same ∙ sym (ap (λ (z : Bool). z && eqb (formCost k c (g .body p)) (c r)) (le-leb (c r) 65535 low)))
-          agree same p l false o = ap (λ (z : Bool). z && eqb (formCost k b (g .body p)) m) o
-              ∙ sym (ap (λ (z : Bool). z && (leb (c r) 65535 && eqb (formCost k c (g .body p)) (c r))) (sym (eqb-turned (g .owner p) r) ∙ o))
 
   -- what a call with at most n calls inside it returns
   abbrev Known : ℕ → ℕ → List (List ℕ) → Type 0
@@ -329,7 +291,7 @@ module _ (g : Grammar) (k : ℕ → ℕ) (ok : Proper g) (own : (r : ℕ) → r 
       record {
         within = and-join (e .0) (i .within);
         long = ap suc (i .long);
-        starts = (omega (arith, ap length (e .1), length-words (listing g k c n r), listing-some g k c ok x n r (e .0)), i .starts);
+        starts = (omega (arith, ap length (e .1), length-map (listing g k c n r) (λ x. x .tokens), listing-some g k c ok x n r (e .0)), i .starts);
         mixes = ap₂ together (e .1) (i .mixes) ∙ sym (words-pairs (listing g k c n r) (choices (listing g k c n) α));
       }
 
@@ -343,7 +305,7 @@ module _ (g : Grammar) (k : ℕ → ℕ) (ok : Proper g) (own : (r : ℕ) → r 
       let len : length bs ≡ length (g .body p) = length-map ms length ∙ i .long in
       let z = replicate-zeros (length (g .body p)) bs (sym len) in
       let full : 0 < length bs = omega (arith, len, not-empty (g .body p) some-symbol) in
-      let o = loop-list ms full (i .starts) (fits-length bs (zeros bs) (i .starts)) (subst (λ v. Loop ms v out) z l) in
+      let o = loop-list ms full (i .starts) (subst (λ v. Loop ms v out) z l) in
       (i .within, append-nil out ∙ o ∙ ap (λ (v : ℕ). drop v (mixed ms)) (turns-zeros bs) ∙ i .mixes)
     where
       not-empty : (α : Form) → (α ≡ [] → ⊥) → 0 < length α
@@ -362,7 +324,7 @@ module _ (g : Grammar) (k : ℕ → ℕ) (ok : Proper g) (own : (r : ℕ) → r 
     where
       last : (t : Bool) (two : List (List ℕ)) → Pushes g (Runs g k b n) (cond t (j ∷ []) []) two
           → ((not t || allMarked (deep g k c n) (g .body j)) ≡ true) × (two ≡ words (cond t (map (by j) (choices (listing g k c n) (g .body j))) []))
-      last true two z = let o = pushed-one n ih j (omega arith) z in (o .0, o .1 ∙ sym (words-by j (choices (listing g k c n) (g .body j))))
+      last true two z = let o = pushed-one n ih j (omega arith) z in (o .0, o .1 ∙ sym (map-map (λ x. x .tokens) (by j) (choices (listing g k c n) (g .body j))))
       last false _ stop = (refl, refl)
 
   runs-list : (n r : ℕ) → r < g .rules → (sts : List (List ℕ)) → Runs g k b n r sts → Known n r sts
@@ -385,11 +347,7 @@ module _ (g : Grammar) (k : ℕ → ℕ) (ok : Proper g) (own : (r : ℕ) → r 
   loop-ends : (ms : List (List (List ℕ))) → 0 < length (map length ms) → (fuel : ℕ) (ds : List ℕ) → Fits (map length ms) ds → product (map length ms) ≤ turns (map length ms) ds + fuel → (out : List (List ℕ)) × Loop ms ds out
   loop-ends ms sm zero ds f le = absurd (omega (arith, turns-below (map length ms) ds f))
   loop-ends ms sm (suc fuel) ds f le =
-      let bs = map length ms in
-      let len = fits-length bs ds f in
-      let ih : (es : List ℕ) → Fits bs es → product bs ≤ turns bs es + fuel → (out : List (List ℕ)) × Loop ms es out = loop-ends ms sm fuel in
-      let c = carried bs ds f (length ds - 1) ds (subst (λ (z : ℕ). Carrying bs ds z ds) {x = length ds} {y = suc (length ds - 1)} (omega arith) (carry-start bs ds f (length ds) len)) in
-      go (carry bs ds (length ds - 1)) refl c ih
+      go (carry (map length ms) ds (length ds - 1)) refl (carried-all (map length ms) ds f sm) (loop-ends ms sm fuel)
     where
       go : (o : Option (List ℕ)) → carry (map length ms) ds (length ds - 1) ≡ o → Carried (map length ms) ds f o
           → ((es : List ℕ) → Fits (map length ms) es → product (map length ms) ≤ turns (map length ms) es + fuel → (out : List (List ℕ)) × Loop ms es out) → (out : List (List ℕ)) × Loop ms ds out

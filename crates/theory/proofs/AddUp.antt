@@ -4,7 +4,6 @@ use Prim.Native.Nat.{ℕ, zero, suc, _+_, _-_, _≤_, _<_, min, max}
 use native.Mathlib.Nat.{not-suc-le-zero}
 use native.Mathlib.Omega.{arith}
 use Rattle.theory.specs.DearestVisits.{noBound, addUp}
-use Rattle.theory.proofs.Count.{sum}
 use Rattle.theory.proofs.DearestLevels.{WayToAdd}
 
 -- as numbers
@@ -13,45 +12,32 @@ plus zero y = 0
 plus (suc v) zero = 0
 plus (suc v) (suc u) = suc (v + u)
 
-pub plus-adds : WayToAdd plus
-plus-adds = record { known = known; mono = mono; upto = upto }
+-- a way of adding that knows a sum where it knows both parts, and then is f of the parts less one each
+way : (op f : ℕ → ℕ → ℕ) → ((y : ℕ) → op 0 y ≡ 0) → ((v : ℕ) → op (suc v) 0 ≡ 0) → ((v u : ℕ) → op (suc v) (suc u) ≡ suc (f v u)) → ((v u w z : ℕ) → v ≤ w → u ≤ z → f v u ≤ f w z) → ((v u : ℕ) → f v u ≤ v + u) → WayToAdd op
+way op f left right both grows most = record { known = known; mono = mono; upto = upto }
   where
-    known : (x y : ℕ) → 0 < plus x y → (0 < x) × (0 < y)
-    known zero y lt = absurd (not-suc-le-zero lt)
-    known (suc v) zero lt = absurd (not-suc-le-zero lt)
+    known : (x y : ℕ) → 0 < op x y → (0 < x) × (0 < y)
+    known zero y lt = absurd (omega (arith, left y))
+    known (suc v) zero lt = absurd (omega (arith, right v))
     known (suc v) (suc u) lt = (omega arith, omega arith)
 
-    mono : (x y z u : ℕ) → x ≤ z → y ≤ u → plus x y ≤ plus z u
-    mono zero y z u a b = omega arith
-    mono (suc v) zero z u a b = omega arith
+    mono : (x y z u : ℕ) → x ≤ z → y ≤ u → op x y ≤ op z u
+    mono zero y z u a b = omega (arith, left y)
+    mono (suc v) zero z u a b = omega (arith, right v)
     mono (suc v) (suc y) zero u a b = absurd (omega arith)
     mono (suc v) (suc y) (suc z) zero a b = absurd (omega arith)
-    mono (suc v) (suc y) (suc z) (suc u) a b = omega arith
+    mono (suc v) (suc y) (suc z) (suc u) a b = omega (arith, both v y, both z u, grows v y z u (omega arith) (omega arith))
 
-    upto : (x y : ℕ) → 0 < x → 0 < y → plus x y < x + y
-    upto zero y a b = absurd (not-suc-le-zero a)
-    upto (suc v) zero a b = absurd (not-suc-le-zero b)
-    upto (suc v) (suc u) a b = omega arith
+    upto : (x y : ℕ) → 0 < x → 0 < y → op x y < x + y
+    upto zero y a b = absurd (omega arith)
+    upto (suc v) zero a b = absurd (omega arith)
+    upto (suc v) (suc u) a b = omega (arith, both v u, most v u)
+
+pub plus-adds : WayToAdd plus
+plus-adds = way plus _+_ (λ y. refl) (λ v. refl) (λ v u. refl) (λ v u w z a b. omega arith) (λ v u. omega arith)
 
 pub addup-adds : WayToAdd addUp
-addup-adds = record { known = known; mono = mono; upto = upto }
-  where
-    known : (x y : ℕ) → 0 < addUp x y → (0 < x) × (0 < y)
-    known zero y lt = absurd (not-suc-le-zero lt)
-    known (suc v) zero lt = absurd (not-suc-le-zero lt)
-    known (suc v) (suc u) lt = (omega arith, omega arith)
-
-    mono : (x y z u : ℕ) → x ≤ z → y ≤ u → addUp x y ≤ addUp z u
-    mono zero y z u a b = omega arith
-    mono (suc v) zero z u a b = omega arith
-    mono (suc v) (suc y) zero u a b = absurd (omega arith)
-    mono (suc v) (suc y) (suc z) zero a b = absurd (omega arith)
-    mono (suc v) (suc y) (suc z) (suc u) a b = omega arith
-
-    upto : (x y : ℕ) → 0 < x → 0 < y → addUp x y < x + y
-    upto zero y a b = absurd (not-suc-le-zero a)
-    upto (suc v) zero a b = absurd (not-suc-le-zero b)
-    upto (suc v) (suc u) a b = omega arith
+addup-adds = way addUp (λ v u. min (v + u) (max (max v u) 65534 + 1)) (λ y. refl) (λ v. refl) (λ v u. refl) (λ v u w z a b. omega arith) (λ v u. omega arith)
 
 -- the same without taking the numbers apart, as a loop adds
 pub addup-is : (x y : ℕ) → 0 < x → 0 < y → addUp x y ≡ min (x + y - 1) (max (max x y) 65535 + 1)
@@ -68,21 +54,9 @@ addup-is (suc v) (suc u) a b = cut (max v u) (v + u) ∙ sym (rw (sums, both) re
     sums : suc v + suc u - 1 ≡ suc (v + u)
     sums = omega arith
 
--- known parts make a known sum, of at least either
+-- known parts make a known sum
 pub addup-known : (x y : ℕ) → 0 < x → 0 < y → 0 < addUp x y
-addup-known zero y a b = absurd (not-suc-le-zero a)
-addup-known (suc v) zero a b = absurd (not-suc-le-zero b)
-addup-known (suc v) (suc u) a b = omega arith
-
-pub addup-left : (x y : ℕ) → 0 < y → x ≤ addUp x y
-addup-left zero y b = omega arith
-addup-left (suc v) zero b = absurd (not-suc-le-zero b)
-addup-left (suc v) (suc u) b = omega arith
-
-pub addup-right : (x y : ℕ) → 0 < x → y ≤ addUp x y
-addup-right zero y a = absurd (not-suc-le-zero a)
-addup-right (suc v) zero a = omega arith
-addup-right (suc v) (suc u) a = omega arith
+addup-known x y a b = omega (arith, addup-is x y a b)
 
 -- one step adds at most one beyond 65536
 pub addup-grows : (x y M : ℕ) → 65535 ≤ M → x ≤ M → y ≤ M → addUp x y ≤ suc M
@@ -127,16 +101,11 @@ addup-cap (suc (suc v)) (suc zero) c d a b = omega (arith, double-mono (suc v) (
 addup-cap (suc (suc v)) (suc (suc u)) c d a b =
     omega (arith, double-mono (suc v) (max (suc v) (suc u)) (omega arith), double-mono (suc u) (max (suc v) (suc u)) (omega arith), double-mono (suc (max (suc v) (suc u))) (min (suc v + suc u) (max (max (suc v) (suc u)) 65534 + 1)) (omega arith))
 
-addup-exact : (x y c d : ℕ) → addUp x y ≤ 65535 → (x ≤ 65535 → c < x) → (y ≤ 65535 → d < y) → 0 < x → 0 < y → c + d < addUp x y
-addup-exact zero y c d l a b e f = absurd (not-suc-le-zero e)
-addup-exact (suc v) zero c d l a b e f = absurd (not-suc-le-zero f)
-addup-exact (suc v) (suc u) c d l a b e f = omega (arith, a (omega arith), b (omega arith))
-
 pub addup-allows : (x y c d : ℕ) → Allows x c → Allows y d → Allows (addUp x y) (c + d)
 addup-allows x y c d h i = record {
   known = addup-known x y (h .known) (i .known);
-  exact = λ l. addup-exact x y c d l (h .exact) (i .exact) (h .known) (i .known);
-  bound = λ l. addup-cap x y c d (h .bound (omega (arith, addup-left x y (i .known)))) (i .bound (omega (arith, addup-right x y (h .known))));
+  exact = λ l. let e = addup-is x y (h .known) (i .known) in omega (arith, h .exact (omega arith), i .exact (omega arith));
+  bound = λ l. let e = addup-is x y (h .known) (i .known) in addup-cap x y c d (h .bound (omega arith)) (i .bound (omega arith));
 }
 
 pub token-allows : (n : ℕ) → Allows (suc n) n

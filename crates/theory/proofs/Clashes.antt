@@ -12,7 +12,7 @@ use Rattle.theory.specs.Clashes.{rowOf, sharesOf, pairOf, lowOf, ruleOf,
 use Rattle.theory.specs.Grammar.{Grammar}
 use Rattle.theory.specs.Visits.{Table, Marks}
 use Rattle.theory.proofs.Below.{some-at, some-found, all-none, first-at, first-none}
-use Rattle.theory.proofs.Bools.{and-split, and-join, or-split, or-left, or-right, bool-eq, eqb-same}
+use Rattle.theory.proofs.Bools.{and-split, and-join, or-split, or-left, or-right, fails, bool-eq, eqb-same}
 
 module _ (g : Grammar) (m : Marks) (f : Table) where
   -- production q, from i on, is one of rule r and has the mark t
@@ -119,11 +119,7 @@ module _ (g : Grammar) (m : Marks) (f : Table) where
         subst (λ z. (rule < z) ⊎ ((rule ≡ z) × (lower ≤ p))) o (w .least p (omega arith) lp (subst (λ z. lowOf g m f z p ≡ true) (sym o) e))
 
     none-below : (r : ℕ) → r < rule → ruleOf g m f r ≡ false
-    none-below r l = all-none (lowOf g m f r) (g .prods) (λ p lp. go p lp (lowOf g m f r p) refl)
-      where
-        go : (p : ℕ) → p < g .prods → (b : Bool) → lowOf g m f r p ≡ b → lowOf g m f r p ≡ false
-        go p lp true e = elim (no-lower r p lp e) [ inl k ↦ absurd (omega arith) | inr (k, j) ↦ absurd (omega arith) ]
-        go p lp false e = e
+    none-below r l = all-none (lowOf g m f r) (g .prods) (λ p lp. fails (lowOf g m f r p) (λ e. elim (no-lower r p lp e) [ inl k ↦ omega arith | inr (k, j) ↦ omega arith ]))
 
     pub lowest-passes : g .rules ≤ rule → FirstBelow (ruleOf g m f) (g .rules) false rule
     lowest-passes le = first-none (ruleOf g m f) (g .rules) rule (λ r l. none-below r (omega arith))
@@ -133,8 +129,4 @@ module _ (g : Grammar) (m : Marks) (f : Table) where
       lowest-rule = first-at (ruleOf g m f) (g .rules) rule lt (some-at (lowOf g m f rule) (g .prods) lower (w .isProd lt) (w .isLow lt)) none-below
 
       pub lowest-low : FirstBelow (lowOf g m f rule) (g .prods) true lower
-      lowest-low = first-at (lowOf g m f rule) (g .prods) lower (w .isProd lt) (w .isLow lt) (λ p l. go p (omega (arith, w .isProd lt)) l (lowOf g m f rule p) refl)
-        where
-          go : (p : ℕ) → p < g .prods → p < lower → (b : Bool) → lowOf g m f rule p ≡ b → lowOf g m f rule p ≡ false
-          go p lp l true e = elim (no-lower rule p lp e) [ inl k ↦ absurd (omega arith) | inr (k, j) ↦ absurd (omega arith) ]
-          go p lp l false e = e
+      lowest-low = first-at (lowOf g m f rule) (g .prods) lower (w .isProd lt) (w .isLow lt) (λ p l. fails (lowOf g m f rule p) (λ e. elim (no-lower rule p (omega (arith, w .isProd lt)) e) [ inl k ↦ omega arith | inr (k, j) ↦ omega arith ]))

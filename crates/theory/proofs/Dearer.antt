@@ -1,7 +1,7 @@
 -- What a dearer token does, from the definitions alone.
-use mathlib.Core.Bool.{Bool, true, false, cond}
 use mathlib.Core.List.{List, [], _∷_}
-use mathlib.Core.Path.{_≡_, refl, ap}
+use mathlib.Core.Logic.{inl, inr}
+use mathlib.Core.Path.{_≡_, ap}
 use Prim.Native.Nat.{ℕ, _+_, _*_}
 use native.Mathlib.Decide.{decLe}
 use native.Mathlib.Nat.{mul-add}
@@ -11,16 +11,16 @@ use borrow.Author.Tests.{eqb-true, eqb-false}
 use Rattle.theory.specs.Grammar.{Grammar}
 use Rattle.theory.specs.Definitions.{costOf, Cost}
 use Rattle.theory.specs.Dearer.{GoesUp, occurs, Dearer}
+use Rattle.theory.proofs.Bools.{tested}
 
 module _ {k k′ : ℕ → ℕ} {t d : ℕ} (h : GoesUp k t d k′) where
   -- a sentence's cost goes up by d for each t in it
   pub raised-cost : (w : List ℕ) → costOf k′ w ≡ costOf k w + d * occurs t w
   raised-cost [] = omega arith
-  raised-cost (s ∷ w) = go (eqb s t) refl (raised-cost w)
-    where
-      go : (b : Bool) → eqb s t ≡ b → costOf k′ w ≡ costOf k w + d * occurs t w → k′ s + costOf k′ w ≡ k s + costOf k w + d * (cond b 1 0 + occurs t w)
-      go true e ih = let q = eqb-true s t e in omega (arith, h .up, ap k q, ap k′ q, mul-add d 1 (occurs t w), ih)
-      go false e ih = omega (arith, h .same s (eqb-false s t e), mul-add d 0 (occurs t w), ih)
+  raised-cost (s ∷ w) = elim (tested (eqb s t)) [
+    | inl e ↦ let q = eqb-true s t e in rw e (omega (arith, h .up, ap k q, ap k′ q, mul-add d 1 (occurs t w), raised-cost w))
+    | inr e ↦ rw e (omega (arith, h .same s (eqb-false s t e), mul-add d 0 (occurs t w), raised-cost w))
+  ]
 
   -- so a rule's cost goes up, by no more than any one cheapest sentence does
   pub dearer : {g : Grammar} {r m n : ℕ} → Cost g k r m → Cost g k′ r n → Dearer g k t d r m n

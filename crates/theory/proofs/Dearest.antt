@@ -1,6 +1,6 @@
 -- The dearest costs: R rounds, then rounds in which any rise goes to no bound, leave each rule's entry.
 use mathlib.Core.Bool.{Bool, true, false, cond}
-use mathlib.Core.List.{List, [], _∷_, _++_, map, cons≢nil, head-eq-of-cons-eq, tail-eq-of-cons-eq, List·Memᴰ, List·Memᴰ·cases-cons, List·Memᴰ·not-nil}
+use mathlib.Core.List.{List, [], _∷_, _++_, map, List·Memᴰ, List·Memᴰ·cases-cons, List·Memᴰ·not-nil}
 use mathlib.Core.Logic.{_⊎_, inl, inr}
 use mathlib.Core.Path.{_≡_, refl, sym, _∙_, ap, subst}
 use Prim.Native.Nat.{ℕ, zero, suc, _+_, _*_, _≤_, _<_, min}
@@ -17,10 +17,9 @@ use Rattle.theory.specs.Rounds.{run, Valid, Round, AllRounds, rounds, Re
 use Rattle.theory.specs.Tables.{Proper}
 use Rattle.theory.specs.Dearest.{Greatest, Unbounded, Dearest, is, unbounded, none, above}
 use Rattle.theory.specs.DearestVisits.{noBound, addUp, formDearest, lifted, dearestVisit, dearestCleared, endsAs}
-use Rattle.theory.proofs.Bools.{eqb-same}
-use Rattle.theory.proofs.Yields.{Yields, nil, keep, open′, yields-append, derives→yields, map-append, map-parts}
+use Rattle.theory.proofs.Bools.{tested, eqb-same}
+use Rattle.theory.proofs.Yields.{Yields, nil, keep, yields-append, derives→yields, map-append, Spells, snil, stok, srul, spelled}
 use Rattle.theory.proofs.Rounds.{run-keeps, rounds-keeps}
-use Rattle.theory.proofs.Count.{sum}
 use Rattle.theory.proofs.Cost.{cost-append}
 use Rattle.theory.proofs.Pumping.{Around, GainingLoop, loop-unbounded, loop-on, loop-productive, around-front, around-here, around-prod}
 use Rattle.theory.proofs.DearestLevels.{levelDearest, form-mono, level-prod, level-via, level-upto, level-sentence, level-loop, highest}
@@ -57,21 +56,16 @@ entry-allows s x c l h = record {
 }
 
 module _ (g : Grammar) (k : ℕ → ℕ) (c : Costs) (st : Covered g k c) where
-  form-allows : {α β : Form} → Yields g α β → (w : List ℕ) → β ≡ map tok w → Allows (formDearest addUp k c α) (costOf k w)
-  form-allows nil [] e = record { known = omega arith; exact = λ l. omega arith; bound = λ l. omega arith }
-  form-allows nil (t ∷ w) e = absurd (cons≢nil (sym e))
-  form-allows (keep x y) [] e = absurd (cons≢nil e)
-  form-allows (keep {α = α} x y) (t ∷ w) e =
-      subst (λ z. Allows (formDearest addUp k c (z ∷ α)) (k t + costOf k w)) (sym (head-eq-of-cons-eq e)) (addup-allows _ _ _ _ (token-allows (k t)) (form-allows y w (tail-eq-of-cons-eq e)))
-  form-allows (open′ {r = r} {α = α} {β = β} {γ = γ} p lt o b y d) w e =
-      let s = map-parts γ β w (sym e ∙ d) in
-      let one = entry-allows _ _ _ (st p lt) (form-allows b (s .0) (s .3)) in
-      subst (λ z. Allows (formDearest addUp k c (rul r ∷ α)) z) (sym (ap (costOf k) (s .2) ∙ cost-append k (s .0) (s .1)))
-      (addup-allows (c r) (formDearest addUp k c α) _ _ (subst (λ z. Allows (c z) (costOf k (s .0))) o one) (form-allows y (s .1) (s .4)))
+  form-allows : {α : Form} {w : List ℕ} → Spells g α w → Allows (formDearest addUp k c α) (costOf k w)
+  form-allows snil = record { known = omega arith; exact = λ l. omega arith; bound = λ l. omega arith }
+  form-allows (stok t x) = addup-allows _ _ _ _ (token-allows (k t)) (form-allows x)
+  form-allows (srul {r = r} {α = α} {u = u} {v = v} p lt o x y e) =
+      subst (λ z. Allows (formDearest addUp k c (rul r ∷ α)) z) (sym (ap (costOf k) e ∙ cost-append k u v))
+      (addup-allows (c r) (formDearest addUp k c α) _ _ (subst (λ z. Allows (c z) (costOf k u)) o (entry-allows _ _ _ (st p lt) (form-allows x))) (form-allows y))
 
   sentence-allows : (r : ℕ) (w : List ℕ) → Sentence g r w → Allows (c r) (costOf k w)
   sentence-allows r w d =
-      let h = form-allows (derives→yields d) w refl in
+      let h = form-allows (spelled w d) in
       record { known = addup-adds .known (c r) 1 (h .known) .0; exact = λ l. omega (arith, h .exact (omega (arith, one (c r))), one (c r)); bound = λ l. omega (arith, h .bound (omega (arith, one (c r))), ap cap (one (c r))) }
     where
       one : (x : ℕ) → addUp x 1 ≡ x
@@ -85,24 +79,19 @@ module _ (g : Grammar) (k : ℕ → ℕ) (ok : Proper g) where
   plus-both (suc v) zero c d a b = absurd (not-suc-le-zero b)
   plus-both (suc v) (suc u) c d a b = omega arith
 
-  counted : {α β : Form} → Yields g α β → (w : List ℕ) → β ≡ map tok w → (n : ℕ) × (costOf k w < formDearest plus k (levelDearest plus g k n) α)
-  counted nil [] e = (0, omega arith)
-  counted nil (t ∷ w) e = absurd (cons≢nil (sym e))
-  counted (keep x y) [] e = absurd (cons≢nil e)
-  counted (keep {α = α} x y) (t ∷ w) e =
-      let i = counted y w (tail-eq-of-cons-eq e) in
-      (i .0, subst (λ z. k t + costOf k w < formDearest plus k (levelDearest plus g k (i .0)) (z ∷ α)) (sym (head-eq-of-cons-eq e)) (plus-both (suc (k t)) _ (k t) _ (omega arith) (i .1)))
-  counted (open′ {r = r} {α = α} {β = β} {γ = γ} p lt o b y d) w e =
-      let s = map-parts γ β w (sym e ∙ d) in
-      let i = counted b (s .0) (s .3) in
-      let j = counted y (s .1) (s .4) in
+  counted : {α : Form} {w : List ℕ} → Spells g α w → (n : ℕ) × (costOf k w < formDearest plus k (levelDearest plus g k n) α)
+  counted snil = (0, omega arith)
+  counted (stok t x) = let i = counted x in (i .0, plus-both (suc (k t)) _ (k t) _ (omega arith) (i .1))
+  counted (srul {r = r} {α = α} {u = u} {v = v} p lt o x y e) =
+      let i = counted x in
+      let j = counted y in
       let n = suc (i .0) + j .0 in
-      let one : costOf k (s .0) < levelDearest plus g k n r = omega (arith, i .1, level-prod plus-adds g k (i .0) p lt, ap (levelDearest plus g k (suc (i .0))) o, level-upto plus-adds g k (suc (i .0)) n r (omega arith)) in
-      let two : costOf k (s .1) < formDearest plus k (levelDearest plus g k n) α = omega (arith, j .1, form-mono plus-adds k (levelDearest plus g k (j .0)) (levelDearest plus g k n) (λ q. level-upto plus-adds g k (j .0) n q (omega arith)) α) in
-      (n, omega (arith, ap (costOf k) (s .2), cost-append k (s .0) (s .1), plus-both (levelDearest plus g k n r) (formDearest plus k (levelDearest plus g k n) α) _ _ one two))
+      let one : costOf k u < levelDearest plus g k n r = omega (arith, i .1, level-prod plus-adds g k (i .0) p lt, ap (levelDearest plus g k (suc (i .0))) o, level-upto plus-adds g k (suc (i .0)) n r (omega arith)) in
+      let two : costOf k v < formDearest plus k (levelDearest plus g k n) α = omega (arith, j .1, form-mono plus-adds k (levelDearest plus g k (j .0)) (levelDearest plus g k n) (λ q. level-upto plus-adds g k (j .0) n q (omega arith)) α) in
+      (n, omega (arith, ap (costOf k) e, cost-append k u v, plus-both (levelDearest plus g k n r) (formDearest plus k (levelDearest plus g k n) α) _ _ one two))
 
   sentence-level : (r : ℕ) (w : List ℕ) → Sentence g r w → (n : ℕ) × (costOf k w < levelDearest plus g k n r)
-  sentence-level r w d = let i = counted (derives→yields d) w refl in (i .0, omega (arith, i .1, one (levelDearest plus g k (i .0) r)))
+  sentence-level r w d = let i = counted (spelled w d) in (i .0, omega (arith, i .1, one (levelDearest plus g k (i .0) r)))
     where
       one : (x : ℕ) → plus x 1 ≡ x
       one zero = refl
@@ -137,33 +126,27 @@ highest-le (suc n) M f h = omega (arith, h n (omega arith), highest-le n M f (λ
 
 -- what a visit leaves
 lifted-cases : (beyond : Bool) (n s : ℕ) → ((n < s) × (lifted beyond n s ≡ cond beyond noBound s)) ⊎ ((s ≤ n) × (lifted beyond n s ≡ n))
-lifted-cases beyond n s = go (ltb n s) refl
-  where
-    go : (b : Bool) → ltb n s ≡ b → ((n < s) × (cond b (cond beyond noBound s) n ≡ cond beyond noBound s)) ⊎ ((s ≤ n) × (cond b (cond beyond noBound s) n ≡ n))
-    go true e = inl (ltb-true n s e, refl)
-    go false e = inr (ltb-false n s e, refl)
+lifted-cases beyond n s = elim (tested (ltb n s)) [ inl e ↦ inl (ltb-true n s e, rw e) | inr e ↦ inr (ltb-false n s e, rw e) ]
 
 module _ (g : Grammar) (k : ℕ → ℕ) (beyond : Bool) (p : ℕ) (c : Costs) where
   abbrev sumOf : ℕ
   sumOf = min (formDearest addUp k c (g .body p)) noBound
 
   pub dearest-cases : (r : ℕ) → ((r ≡ g .owner p) × (c r < sumOf) × (dearestVisit g k beyond p c r ≡ cond beyond noBound sumOf)) ⊎ (dearestVisit g k beyond p c r ≡ c r)
-  dearest-cases r = go (eqb r (g .owner p)) refl
-    where
-      go : (b : Bool) → eqb r (g .owner p) ≡ b → ((r ≡ g .owner p) × (c r < sumOf) × (cond b (lifted beyond (c r) sumOf) (c r) ≡ cond beyond noBound sumOf)) ⊎ (cond b (lifted beyond (c r) sumOf) (c r) ≡ c r)
-      go true e = elim (lifted-cases beyond (c r) sumOf) [ inl h ↦ inl (eqb-true r _ e, h .0, h .1) | inr h ↦ inr (h .1) ]
-      go false e = inr refl
+  dearest-cases r = elim (tested (eqb r (g .owner p))) [
+    | inl e ↦ elim (lifted-cases beyond (c r) sumOf) [ inl h ↦ inl (eqb-true r _ e, h .0, rw e (h .1)) | inr h ↦ inr (rw e (h .1)) ]
+    | inr e ↦ inr (rw e)
+  ]
 
-  at-least : (b : Bool) → beyond ≡ b → sumOf ≤ cond b noBound sumOf
-  at-least true e = omega arith
-  at-least false e = omega arith
+  at-least : sumOf ≤ cond beyond noBound sumOf
+  at-least = elim (tested beyond) [ inl e ↦ rw e (omega arith) | inr e ↦ rw e (omega arith) ]
 
   pub dearest-up : (r : ℕ) → c r ≤ dearestVisit g k beyond p c r
-  dearest-up r = elim (dearest-cases r) [ inl e ↦ omega (arith, e .1, e .2, at-least beyond refl) | inr e ↦ omega (arith, e) ]
+  dearest-up r = elim (dearest-cases r) [ inl e ↦ omega (arith, e .1, e .2, at-least) | inr e ↦ omega (arith, e) ]
 
   pub dearest-owner : sumOf ≤ dearestVisit g k beyond p c (g .owner p)
   dearest-owner = subst (λ z. sumOf ≤ cond z (lifted beyond (c (g .owner p)) sumOf) (c (g .owner p))) (sym (eqb-same (g .owner p)))
-      (elim (lifted-cases beyond (c (g .owner p)) sumOf) [ inl h ↦ omega (arith, h .1, at-least beyond refl) | inr h ↦ omega (arith, h .0, h .1) ])
+      (elim (lifted-cases beyond (c (g .owner p)) sumOf) [ inl h ↦ omega (arith, h .1, at-least) | inr h ↦ omega (arith, h .0, h .1) ])
 
 -- a table that no visit changes
 pub rest-covered : (g : Grammar) (k : ℕ → ℕ) (beyond : Bool) (c : Costs) → Rest (dearestVisit g k beyond) (g .prods) c → Covered g k c
@@ -176,12 +159,10 @@ module _ (g : Grammar) (k : ℕ → ℕ) (beyond : Bool) where
 
   dearest-run-reach : (v : List ℕ) (p : ℕ) → List·Memᴰ p v → (c : Costs) → min (formDearest addUp k c (g .body p)) noBound ≤ run (dearestVisit g k beyond) v c (g .owner p)
   dearest-run-reach [] p m c = absurd (List·Memᴰ·not-nil m)
-  dearest-run-reach (q ∷ v) p m c =
-      let ih : List·Memᴰ p v → min (formDearest addUp k (dearestVisit g k beyond q c) (g .body p)) noBound ≤ run (dearestVisit g k beyond) v (dearestVisit g k beyond q c) (g .owner p) = λ n. dearest-run-reach v p n (dearestVisit g k beyond q c) in
-      elim (List·Memᴰ·cases-cons m) [
-        | inl e ↦ omega (arith, dearest-run-up v (dearestVisit g k beyond q c) (g .owner p), subst (λ z. min (formDearest addUp k c (g .body p)) noBound ≤ dearestVisit g k beyond z c (g .owner p)) e (dearest-owner g k beyond p c))
-        | inr l ↦ omega (arith, ih l, form-mono addup-adds k c (dearestVisit g k beyond q c) (dearest-up g k beyond q c) (g .body p))
-      ]
+  dearest-run-reach (q ∷ v) p m c = elim (List·Memᴰ·cases-cons m) [
+    | inl e ↦ omega (arith, dearest-run-up v (dearestVisit g k beyond q c) (g .owner p), subst (λ z. min (formDearest addUp k c (g .body p)) noBound ≤ dearestVisit g k beyond z c (g .owner p)) e (dearest-owner g k beyond p c))
+    | inr l ↦ omega (arith, dearest-run-reach v p l (dearestVisit g k beyond q c), form-mono addup-adds k c (dearestVisit g k beyond q c) (dearest-up g k beyond q c) (g .body p))
+  ]
 
 module _ (g : Grammar) (k : ℕ → ℕ) (ok : Proper g) (lim : Limits g k) where
   -- levels up to R stay below `noBound`
@@ -193,12 +174,10 @@ module _ (g : Grammar) (k : ℕ → ℕ) (ok : Proper g) (lim : Limits g k) wher
   level-small : (n r : ℕ) → levelDearest addUp g k n r ≤ 65535 + n * 16384
   level-small zero r = omega arith
   level-small (suc n) r =
-      let ih : (q : ℕ) → levelDearest addUp g k n q ≤ 65535 + n * 16384 = λ q. level-small n q in
-      highest-le (g .prods) _ _ (λ p lt. go p (omega (arith, form-small (levelDearest addUp g k n) (65535 + n * 16384) (omega arith) ih (g .body p), lim .long p lt)) (eqb r (g .owner p)))
-    where
-      go : (p : ℕ) → formDearest addUp k (levelDearest addUp g k n) (g .body p) ≤ 65535 + suc n * 16384 → (b : Bool) → cond b (formDearest addUp k (levelDearest addUp g k n) (g .body p)) 0 ≤ 65535 + suc n * 16384
-      go p h true = h
-      go p h false = omega arith
+      highest-le (g .prods) _ _ (λ p lt. elim (tested (eqb r (g .owner p))) [
+        | inl e ↦ rw e (omega (arith, form-small (levelDearest addUp g k n) (65535 + n * 16384) (omega arith) (level-small n) (g .body p), lim .long p lt))
+        | inr e ↦ rw e (omega arith)
+      ])
 
   level-below : (n r : ℕ) → n ≤ 512 → levelDearest addUp g k n r < noBound
   level-below n r l = omega (arith, level-small n r)
@@ -252,10 +231,9 @@ module _ (g : Grammar) (k : ℕ → ℕ) (ok : Proper g) (lim : Limits g k) wher
   ]
   parts c f (rul r ∷ α) lt =
       let s = addup-adds .known (c r) (formDearest addUp k c α) lt in
-      let ih : ((n : ℕ) × (formDearest addUp k c α ≤ formDearest addUp k (levelDearest addUp g k n) α)) ⊎ ((q : ℕ) × (d : ℕ) × Around g k α q d × GainingLoop g k q) = parts c f α (s .1) in
       elim (f r) [
         | inr l ↦ let y = backed-strings c f α (s .1) in inr (r, _, around-here r (y .0) (y .1), l)
-        | inl h ↦ elim ih [
+        | inl h ↦ elim (parts c f α (s .1)) [
           | inr i ↦ let y = backed-sentence c f r (s .0) in inr (i .0, _, around-front (y .0) (derives→yields (y .1)) (i .2), i .3)
           | inl i ↦
               let n = h .1 + i .0 in
@@ -323,24 +301,25 @@ module _ (g : Grammar) (k : ℕ → ℕ) (ok : Proper g) (lim : Limits g k) wher
         | inr l ↦ absurd (bounded lt l)
       ]
 
-      over : (v : ℕ) → c r ≡ suc v → 65534 < v → (b : Bool) → leb noBound (suc v) ≡ b → Dearest g k r (cond b 65535 65537)
-      over v e l true t = elim (f r) [ inl i ↦ absurd (omega (arith, leb-true noBound (suc v) t, e, i .0)) | inr i ↦ unbounded (loop-unbounded i) refl ]
-      over v e l false t =
-          let lt : c r < noBound = omega (arith, leb-false noBound (suc v) t, e) in
-          let w = reached lt (omega (arith, e)) in
-          let m = greatest g k ok r (bounded lt) (w .0, w .1) in
-          above (m .0) (omega (arith, e, w .2, m .1 .most (w .0) (w .1))) (m .1) refl
-
-      found : (v : ℕ) → c r ≡ suc v → (b : Bool) → leb v 65534 ≡ b → Dearest g k r (cond b v (cond (leb noBound (suc v)) 65535 65537))
-      found v e true t =
-          let l = leb-true v 65534 t in
-          let w = reached (omega (arith, e)) (omega (arith, e)) in
-          is l (record { met = (w .0, w .1, omega (arith, e, w .2, held (w .0) (w .1) .exact (omega (arith, e)))); most = λ u d. omega (arith, e, held u d .exact (omega (arith, e))) })
-      found v e false t = over v e (leb-false v 65534 t) (leb noBound (suc v)) refl
+      over : (v : ℕ) → c r ≡ suc v → 65534 < v → Dearest g k r (cond (leb noBound (suc v)) 65535 65537)
+      over v e l = elim (tested (leb noBound (suc v))) [
+        | inl t ↦ rw t (elim (f r) [ inl i ↦ absurd (omega (arith, leb-true noBound (suc v) t, e, i .0)) | inr i ↦ unbounded (loop-unbounded i) refl ])
+        | inr t ↦
+            let lt : c r < noBound = omega (arith, leb-false noBound (suc v) t, e) in
+            let w = reached lt (omega (arith, e)) in
+            let m = greatest g k ok r (bounded lt) (w .0, w .1) in
+            rw t (above (m .0) (omega (arith, e, w .2, m .1 .most (w .0) (w .1))) (m .1) refl)
+      ]
 
       go : (x : ℕ) → c r ≡ x → Dearest g k r (endsAs x)
       go zero e = none (λ h. omega (arith, e, held (h .0) (h .1) .known)) refl
-      go (suc v) e = found v e (leb v 65534) refl
+      go (suc v) e = elim (tested (leb v 65534)) [
+        | inl t ↦
+            let l = leb-true v 65534 t in
+            let w = reached (omega (arith, e)) (omega (arith, e)) in
+            rw t (is l (record { met = (w .0, w .1, omega (arith, e, w .2, held (w .0) (w .1) .exact (omega (arith, e)))); most = λ u d. omega (arith, e, held u d .exact (omega (arith, e))) }))
+        | inr t ↦ rw t (over v e (leb-false v 65534 t))
+      ]
 
   -- R rounds, then visits beyond them until none changes anything: the entries
   pub dearest-exact : (vs : List (List ℕ)) → AllRounds (g .prods) vs → length vs ≡ g .rules → (v : List ℕ) → Valid (g .prods) v

@@ -1,6 +1,6 @@
 -- The dearest costs by depth: what derivations of n levels come to, by any way of adding that counts at most what is there.
 -- A rule that still rises after R levels leads to a loop that adds cost.
-use mathlib.Core.Bool.{Bool, true, false, _||_, cond, false≢true}
+use mathlib.Core.Bool.{true, false, _||_, cond, false≢true}
 use mathlib.Core.List.{List, [], _∷_, _++_, map}
 use mathlib.Core.Logic.{_⊎_, inl, inr}
 use mathlib.Core.Path.{_≡_, refl, sym, ap, subst}
@@ -16,7 +16,7 @@ use Rattle.theory.specs.Definitions.{Sentence, costOf}
 use Rattle.theory.specs.Visits.{Row, Costs}
 use Rattle.theory.specs.Tables.{Proper}
 use Rattle.theory.specs.DearestVisits.{formDearest}
-use Rattle.theory.proofs.Bools.{or-split, or-left, or-right, eqb-same}
+use Rattle.theory.proofs.Bools.{or-split, or-left, or-right, tested, passes, eqb-same}
 use Rattle.theory.proofs.Count.{count-up, count-upto}
 use Rattle.theory.proofs.Yields.{Yields, nil, keep, yields-append, derives→yields, by-prod, map-append}
 use Rattle.theory.proofs.Cost.{cost-append}
@@ -29,18 +29,14 @@ highest (suc n) f = max (highest n f) (f n)
 
 pub highest-at : (n i : ℕ) (f : ℕ → ℕ) → i < n → f i ≤ highest n f
 highest-at zero i f lt = absurd (not-suc-le-zero lt)
-highest-at (suc n) i f lt =
-    let ih : i < n → f i ≤ highest n f = λ l. highest-at n i f l in
-    elim (eq-or-lt-of-le (le-of-suc-le-suc lt)) [ inl e ↦ omega (arith, ap f e) | inr l ↦ omega (arith, ih l) ]
+highest-at (suc n) i f lt = elim (eq-or-lt-of-le (le-of-suc-le-suc lt)) [ inl e ↦ omega (arith, ap f e) | inr l ↦ omega (arith, highest-at n i f l) ]
 
 pub highest-is : (n : ℕ) (f : ℕ → ℕ) → 0 < highest n f → (i : ℕ) × (i < n) × (f i ≡ highest n f)
 highest-is zero f lt = absurd (not-suc-le-zero lt)
-highest-is (suc n) f lt =
-    let ih : 0 < highest n f → (i : ℕ) × (i < n) × (f i ≡ highest n f) = λ l. highest-is n f l in
-    elim (decLe (f n) (highest n f)) [
-      | yes l ↦ let r = ih (omega arith) in (r .0, omega (arith, r .1), omega (arith, r .2))
-      | no l ↦ (n, omega arith, omega arith)
-    ]
+highest-is (suc n) f lt = elim (decLe (f n) (highest n f)) [
+  | yes l ↦ let r = highest-is n f (omega arith) in (r .0, omega (arith, r .1), omega (arith, r .2))
+  | no l ↦ (n, omega arith, omega arith)
+]
 
 pub highest-mono : (n : ℕ) (f h : ℕ → ℕ) → ((i : ℕ) → f i ≤ h i) → highest n f ≤ highest n h
 highest-mono zero f h le = omega arith
@@ -74,19 +70,10 @@ module _ {op : ℕ → ℕ → ℕ} (a : WayToAdd op) where
     pub level-via : (n r : ℕ) → 0 < levelDearest op g k (suc n) r → (p : ℕ) × (p < g .prods) × (g .owner p ≡ r) × (formDearest op k (levelDearest op g k n) (g .body p) ≡ levelDearest op g k (suc n) r)
     level-via n r lt =
         let h = highest-is (g .prods) (λ p. cond (eqb r (g .owner p)) (formDearest op k (levelDearest op g k n) (g .body p)) 0) lt in
-        go (h .0) (h .1) (eqb r (g .owner (h .0))) refl (h .2)
-      where
-        go : (p : ℕ) → p < g .prods → (b : Bool) → eqb r (g .owner p) ≡ b → cond b (formDearest op k (levelDearest op g k n) (g .body p)) 0 ≡ levelDearest op g k (suc n) r
-            → (p : ℕ) × (p < g .prods) × (g .owner p ≡ r) × (formDearest op k (levelDearest op g k n) (g .body p) ≡ levelDearest op g k (suc n) r)
-        go p l true e h = (p, l, sym (eqb-true r _ e), h)
-        go p l false e h = absurd (omega (arith, h))
+        elim (tested (eqb r (g .owner (h .0)))) [ inl e ↦ (h .0, h .1, sym (eqb-true r _ e), rw e at (h .2)) | inr e ↦ absurd (omega (arith, rw e at (h .2))) ]
 
     next : (c d : Costs) → ((r : ℕ) → c r ≤ d r) → (r p : ℕ) → cond (eqb r (g .owner p)) (formDearest op k c (g .body p)) 0 ≤ cond (eqb r (g .owner p)) (formDearest op k d (g .body p)) 0
-    next c d h r p = go (eqb r (g .owner p))
-      where
-        go : (b : Bool) → cond b (formDearest op k c (g .body p)) 0 ≤ cond b (formDearest op k d (g .body p)) 0
-        go true = form-mono k c d h (g .body p)
-        go false = omega arith
+    next c d h r p = elim (tested (eqb r (g .owner p))) [ inl e ↦ rw e (form-mono k c d h (g .body p)) | inr e ↦ rw e (omega arith) ]
 
     pub level-rises : (n r : ℕ) → levelDearest op g k n r ≤ levelDearest op g k (suc n) r
     level-rises zero r = omega arith
@@ -94,12 +81,10 @@ module _ {op : ℕ → ℕ → ℕ} (a : WayToAdd op) where
 
     pub level-upto : (m n r : ℕ) → m ≤ n → levelDearest op g k m r ≤ levelDearest op g k n r
     level-upto m zero r l = subst (λ z. levelDearest op g k m r ≤ levelDearest op g k z r) (let e : m ≡ 0 = omega arith in e) (omega arith)
-    level-upto m (suc n) r l =
-        let ih : m ≤ n → levelDearest op g k m r ≤ levelDearest op g k n r = λ h. level-upto m n r h in
-        elim (decLe m n) [
-          | yes h ↦ omega (arith, ih h, level-rises n r)
-          | no h ↦ subst (λ z. levelDearest op g k m r ≤ levelDearest op g k z r) (let e : m ≡ suc n = omega arith in e) (omega arith)
-        ]
+    level-upto m (suc n) r l = elim (decLe m n) [
+      | yes h ↦ omega (arith, level-upto m n r h, level-rises n r)
+      | no h ↦ subst (λ z. levelDearest op g k m r ≤ levelDearest op g k z r) (let e : m ≡ suc n = omega arith in e) (omega arith)
+    ]
 
     -- what is counted is there: some sentence costs at least as much
     form-strings : (c : Costs) → ((r : ℕ) → 0 < c r → (w : List ℕ) × Sentence g r w × (c r ≤ suc (costOf k w))) → (α : Form) → 0 < formDearest op k c α
@@ -130,9 +115,6 @@ module _ {op : ℕ → ℕ → ℕ} (a : WayToAdd op) where
       flat : adds ≡ 0 → formDearest op k (levelDearest op g k (suc n)) α ≤ levelDearest op g k (suc n) rule
       fresh : levelDearest op g k n rule < levelDearest op g k (suc n) rule
 
-    form-yields : (n : ℕ) (α : Form) → 0 < formDearest op k (levelDearest op g k n) α → (w : List ℕ) × Yields g α (map tok w) × (formDearest op k (levelDearest op g k n) α ≤ suc (costOf k w))
-    form-yields n α = form-strings (levelDearest op g k n) (level-sentence n) α
-
     -- a form that rises at this level holds such a rule
     fresh-part : (n : ℕ) (α : Form) → 0 < formDearest op k (levelDearest op g k (suc n)) α → (formDearest op k (levelDearest op g k (suc n)) α ≤ formDearest op k (levelDearest op g k n) α) ⊎ RisingPart n α
     fresh-part n [] lt = inl (omega arith)
@@ -151,12 +133,11 @@ module _ {op : ℕ → ℕ → ℕ} (a : WayToAdd op) where
     fresh-part n (rul r ∷ α) lt =
         let s = a .known (levelDearest op g k (suc n) r) (formDearest op k (levelDearest op g k (suc n)) α) lt in
         let u = a .upto (levelDearest op g k (suc n) r) (formDearest op k (levelDearest op g k (suc n)) α) (s .0) (s .1) in
-        let ih : (formDearest op k (levelDearest op g k (suc n)) α ≤ formDearest op k (levelDearest op g k n) α) ⊎ RisingPart n α = fresh-part n α (s .1) in
         elim (decLe (levelDearest op g k (suc n) r) (levelDearest op g k n r)) [
           | no l ↦
-              let y = form-yields (suc n) α (s .1) in
+              let y = form-strings (levelDearest op g k (suc n)) (level-sentence (suc n)) α (s .1) in
               inr (record { rule = r; adds = costOf k (y .0); leads = around-here r (y .0) (y .1); flat = λ e. omega (arith, e, y .2, u); fresh = omega arith })
-          | yes l ↦ elim ih [
+          | yes l ↦ elim (fresh-part n α (s .1)) [
             | inl m ↦ inl (a .mono _ _ _ _ l m)
             | inr i ↦
                 let y = level-sentence (suc n) r (s .0) in
@@ -203,11 +184,7 @@ module _ {op : ℕ → ℕ → ℕ} (a : WayToAdd op) where
     }
 
     full : (R r : ℕ) (S : Row) → R ≤ count R S → r < R → S r ≡ true
-    full R r S le lt = go (S r) refl
-      where
-        go : (b : Bool) → S r ≡ b → S r ≡ true
-        go true e = e
-        go false e = absurd (omega (arith, count-up R S (λ q. true) r lt e refl (λ q _. refl), count-upto R (λ q. true)))
+    full R r S le lt = passes (S r) (λ e. omega (arith, count-up R S (λ q. true) r lt e refl (λ q _. refl), count-upto R (λ q. true)))
 
     module _ (ok : Proper g) where
       inside : (n r : ℕ) → 0 < levelDearest op g k n r → r < g .rules
@@ -218,38 +195,31 @@ module _ {op : ℕ → ℕ → ℕ} (a : WayToAdd op) where
       descend : (n from r d : ℕ) (S : Row) → levelDearest op g k n r < levelDearest op g k (suc n) r → g .rules ≤ n + count (g .rules) S → Around g k (rul from ∷ []) r d → ((s : ℕ) → S s ≡ true → Met from r n s) → GainingLoop g k from
       descend zero from r d S f le l m = met-loop f (m r (full (g .rules) r S (omega arith) (inside 1 r (omega arith))))
       descend (suc n) from r d S f le l m =
-          let below : (q e : ℕ) (T : Row) → levelDearest op g k n q < levelDearest op g k (suc n) q → g .rules ≤ n + count (g .rules) T → Around g k (rul from ∷ []) q e → ((s : ℕ) → T s ≡ true → Met from q n s) → GainingLoop g k from = λ q e T. descend n from q e T in
-          go (S r) refl below
-        where
-          go : (b : Bool) → S r ≡ b
-              → ((q e : ℕ) (T : Row) → levelDearest op g k n q < levelDearest op g k (suc n) q → g .rules ≤ n + count (g .rules) T → Around g k (rul from ∷ []) q e → ((s : ℕ) → T s ≡ true → Met from q n s) → GainingLoop g k from)
-              → GainingLoop g k from
-          go true e below = met-loop f (m r e)
-          go false e below =
-              let v = level-via (suc n) r (omega arith) in
-              elim (fresh-part n (g .body (v .0)) (omega (arith, v .3))) [
-                | inl h ↦ absurd (omega (arith, v .3, h, level-prod n (v .0) (v .1), ap (levelDearest op g k (suc n)) (v .2)))
-                | inr i ↦
-                    let step = around-prod (v .0) (v .1) (v .2) (i .leads) in
-                    let flat : i .adds ≡ 0 → levelDearest op g k (suc (suc n)) r ≤ levelDearest op g k (suc n) (i .rule) = λ z. omega (arith, v .3, i .flat z) in
-                    below (i .rule) _ (λ q. S q || eqb q r) (i .fresh)
-                    (omega (arith, count-up (g .rules) S (λ q. S q || eqb q r) r (inside (suc (suc n)) r (omega arith)) e (or-right (S r) (eqb-same r)) (λ q h. or-left _ h)))
-                    (around-on l step)
-                    (λ s h. elim (or-split (S s) _ h) [
-                      | inl h ↦ met-on step flat (m s h)
-                      | inr h ↦ subst (λ z. Met from (i .rule) n z) (sym (eqb-true s r h)) (record { was = levelDearest op g k (suc (suc n)) r; into = d; since = i .adds; first = l; then = step; flat = flat; fell = f })
-                    ])
-              ]
+          let v = level-via (suc n) r (omega arith) in
+          elim (tested (S r)) [
+            | inl e ↦ met-loop f (m r e)
+            | inr e ↦ elim (fresh-part n (g .body (v .0)) (omega (arith, v .3))) [
+              | inl h ↦ absurd (omega (arith, v .3, h, level-prod n (v .0) (v .1), ap (levelDearest op g k (suc n)) (v .2)))
+              | inr i ↦
+                  let step = around-prod (v .0) (v .1) (v .2) (i .leads) in
+                  let flat : i .adds ≡ 0 → levelDearest op g k (suc (suc n)) r ≤ levelDearest op g k (suc n) (i .rule) = λ z. omega (arith, v .3, i .flat z) in
+                  descend n from (i .rule) _ (λ q. S q || eqb q r) (i .fresh)
+                  (omega (arith, count-up (g .rules) S (λ q. S q || eqb q r) r (inside (suc (suc n)) r (omega arith)) e (or-right (S r) (eqb-same r)) (λ q h. or-left _ h)))
+                  (around-on l step)
+                  (λ s h. elim (or-split (S s) _ h) [
+                    | inl h ↦ met-on step flat (m s h)
+                    | inr h ↦ subst (λ z. Met from (i .rule) n z) (sym (eqb-true s r h)) (record { was = levelDearest op g k (suc (suc n)) r; into = d; since = i .adds; first = l; then = step; flat = flat; fell = f })
+                  ])
+            ]
+          ]
 
       -- a rule that comes to more at some level than at level R
       pub level-loop : (m r : ℕ) → levelDearest op g k (g .rules) r < levelDearest op g k m r → GainingLoop g k r
       level-loop zero r lt = absurd (not-suc-le-zero lt)
-      level-loop (suc m) r lt =
-          let ih : levelDearest op g k (g .rules) r < levelDearest op g k m r → GainingLoop g k r = λ h. level-loop m r h in
-          elim (decLe (levelDearest op g k (suc m) r) (levelDearest op g k m r)) [
-            | yes h ↦ ih (omega arith)
-            | no h ↦ elim (decLe (g .rules) m) [
-              | yes j ↦ descend m r r 0 (λ s. false) (omega arith) (omega arith) (around-self r) (λ s e. absurd (false≢true e))
-              | no j ↦ absurd (omega (arith, level-upto (suc m) (g .rules) r (omega arith)))
-            ]
-          ]
+      level-loop (suc m) r lt = elim (decLe (levelDearest op g k (suc m) r) (levelDearest op g k m r)) [
+        | yes h ↦ level-loop m r (omega arith)
+        | no h ↦ elim (decLe (g .rules) m) [
+          | yes j ↦ descend m r r 0 (λ s. false) (omega arith) (omega arith) (around-self r) (λ s e. absurd (false≢true e))
+          | no j ↦ absurd (omega (arith, level-upto (suc m) (g .rules) r (omega arith)))
+        ]
+      ]

@@ -8,20 +8,21 @@ use native.Mathlib.Decide.{decLt}
 use native.Mathlib.Omega.{arith}
 use lib.Dec.{leb}
 use lib.ListN.{length}
-use borrow.Author.Tests.{leb-true, leb-false, le-leb}
+use borrow.Author.Tests.{leb-true, le-leb, lt-leb}
 use Rattle.theory.specs.Grammar.{Grammar}
 use Rattle.theory.specs.Visits.{Costs}
 use Rattle.theory.specs.Rounds.{run, AllRounds, rounds}
 use Rattle.theory.specs.Tables.{Proper}
-use Rattle.theory.specs.Dearest.{Dearest, is, none}
+use Rattle.theory.specs.Dearest.{Dearest}
 use Rattle.theory.specs.DearestVisits.{noBound, addUp, formDearest, dearestVisit, dearestCleared, endsAs}
 use Rattle.theory.proofs.Rounds.{rounds-keeps, joined, joined-valid, rounds-run, Climb, climb-ascent, rounds-done}
-use Rattle.theory.proofs.Count.{sum, sum-le, sum-same, sum-grows, bit, bit-le, bit-grows}
+use Rattle.theory.proofs.Count.{sum, sum-le, sum-grows, count-up, count-upto, count-mono}
 use Rattle.theory.proofs.Dearest.{Limits, dearest-cases, dearest-up, dearest-run-up, dearest-exact}
+use Rattle.theory.specs.Below.{count}
 
 -- how many entries are `noBound`
 abbrev pub boundless : Grammar → Costs → ℕ
-boundless g c = sum (g .rules) (λ r. bit (leb noBound (c r)))
+boundless g c = count (g .rules) (λ r. leb noBound (c r))
 
 -- entries are at most `noBound`, and none is known outside the rules
 pub record Risen (R : ℕ) (c : Costs) : Type 0 where
@@ -45,16 +46,13 @@ module _ (g : Grammar) (k : ℕ → ℕ) (ok : Proper g) where
     out = λ r l. elim (dearest-cases g k beyond p c r) [ inl e ↦ absurd (omega (arith, e .0, ok .owner p lt)) | inr e ↦ e ∙ i .out r l ];
   }
 
-  same-outside : (beyond : Bool) (p : ℕ) → p < g .prods → (c : Costs) → Risen (g .rules) c → ((r : ℕ) → r < g .rules → dearestVisit g k beyond p c r ≡ c r) → dearestVisit g k beyond p c ≡ c
-  same-outside beyond p lt c i q = fun-ext (λ r. elim (decLt r (g .rules)) [ yes l ↦ q r l | no l ↦ risen-kept beyond p lt c i .out r (omega arith) ∙ sym (i .out r (omega arith)) ])
-
   -- each change raises an entry
   each : (beyond : Bool) (p : ℕ) (c : Costs) (r : ℕ) → (dearestVisit g k beyond p c r ≡ c r) ⊎ (c r < dearestVisit g k beyond p c r)
   each beyond p c r = elim (decLt (c r) (dearestVisit g k beyond p c r)) [ yes l ↦ inr l | no l ↦ inl (omega (arith, dearest-up g k beyond p c r)) ]
 
   pub dearest-grows : (beyond : Bool) (p : ℕ) → p < g .prods → (c : Costs) → Risen (g .rules) c → (dearestVisit g k beyond p c ≡ c) ⊎ (sum (g .rules) c < sum (g .rules) (dearestVisit g k beyond p c))
   dearest-grows beyond p lt c i = elim (sum-grows (g .rules) c (dearestVisit g k beyond p c) (λ r. dearestVisit g k beyond p c r ≡ c r) (λ r q. sym q) (λ r _. each beyond p c r)) [
-    | inl q ↦ inl (same-outside beyond p lt c i q)
+    | inl q ↦ inl (fun-ext (λ r. elim (decLt r (g .rules)) [ yes l ↦ q r l | no l ↦ risen-kept beyond p lt c i .out r (omega arith) ∙ sym (i .out r (omega arith)) ]))
     | inr l ↦ inr l
   ]
 
@@ -67,38 +65,27 @@ module _ (g : Grammar) (k : ℕ → ℕ) (ok : Proper g) where
   }
 
   -- beyond R rounds each change takes an entry to `noBound`: so R more are enough
-  bound-bits : (x y : ℕ) → x < noBound → noBound ≤ y → bit (leb noBound x) < bit (leb noBound y)
-  bound-bits x y l m = go (leb noBound x) refl (leb noBound y) refl
-    where
-      go : (a : Bool) → leb noBound x ≡ a → (b : Bool) → leb noBound y ≡ b → bit a < bit b
-      go true e b f = absurd (omega (arith, leb-true noBound x e))
-      go false e true f = omega arith
-      go false e false f = absurd (omega (arith, leb-false noBound y f))
-
   pub beyond-grows : (p : ℕ) → p < g .prods → (c : Costs) → Risen (g .rules) c → (dearestVisit g k true p c ≡ c) ⊎ (boundless g c < boundless g (dearestVisit g k true p c))
-  beyond-grows p lt c i = elim (sum-grows (g .rules) _ _ (λ r. dearestVisit g k true p c r ≡ c r) (λ r q. ap (λ z. bit (leb noBound z)) (sym q)) (λ r _. topped r)) [
-    | inl q ↦ inl (same-outside true p lt c i q)
-    | inr l ↦ inr l
+  beyond-grows p lt c i = elim (dearest-cases g k true p c (g .owner p)) [
+    | inr e ↦ inl (fun-ext (λ r. elim (dearest-cases g k true p c r) [ inl d ↦ omega (arith, e, ap c (d .0), ap (dearestVisit g k true p c) (d .0)) | inr d ↦ d ]))
+    | inl e ↦ inr (count-up (g .rules) (λ r. leb noBound (c r)) (λ r. leb noBound (dearestVisit g k true p c r)) (g .owner p) (ok .owner p lt)
+        (lt-leb noBound (c (g .owner p)) (omega (arith, e .1)))
+        (le-leb noBound (dearestVisit g k true p c (g .owner p)) (omega (arith, e .2)))
+        (λ r d. le-leb noBound (dearestVisit g k true p c r) (omega (arith, leb-true noBound (c r) d, dearest-up g k true p c r))))
   ]
-    where
-      topped : (r : ℕ) → (dearestVisit g k true p c r ≡ c r) ⊎ (bit (leb noBound (c r)) < bit (leb noBound (dearestVisit g k true p c r)))
-      topped r = elim (dearest-cases g k true p c r) [ inr e ↦ inl e | inl e ↦ inr (bound-bits (c r) (dearestVisit g k true p c r) (omega (arith, e .1)) (omega (arith, e .2))) ]
 
   unfoldable pub beyond-climb : Climb (dearestVisit g k true) (Risen (g .rules)) (g .prods) (g .rules)
   beyond-climb = record {
     size = boundless g;
     kept = risen-kept true;
-    bound = λ c i. omega (arith, sum-le (g .rules) 1 (λ r. bit (leb noBound (c r))) (λ r lt. bit-le (leb noBound (c r))));
+    bound = λ c i. count-upto (g .rules) (λ r. leb noBound (c r));
     grows = beyond-grows;
   }
 
 -- how many entries are `noBound` does not fall
 pub ends-up : (g : Grammar) (k : ℕ → ℕ) (beyond : Bool) (v : List ℕ) (c : Costs) → boundless g c ≤ boundless g (run (dearestVisit g k beyond) v c)
-ends-up g k beyond v c = elim (sum-grows (g .rules) _ _ (λ r. leb noBound (c r) ≡ leb noBound (run (dearestVisit g k beyond) v c r)) (λ r q. ap bit q)
-    (λ r lt. bit-grows (leb noBound (c r)) (leb noBound (run (dearestVisit g k beyond) v c r)) (λ e. le-leb noBound (run (dearestVisit g k beyond) v c r) (omega (arith, leb-true noBound (c r) e, dearest-run-up g k beyond v c r))))) [
-      | inl q ↦ omega (arith, sum-same (g .rules) (λ r. bit (leb noBound (c r))) (λ r. bit (leb noBound (run (dearestVisit g k beyond) v c r))) (λ r lt. ap bit (q r lt)))
-      | inr l ↦ omega arith
-    ]
+ends-up g k beyond v c = count-mono (g .rules) (λ r. leb noBound (c r)) (λ r. leb noBound (run (dearestVisit g k beyond) v c r))
+    (λ r e. le-leb noBound (run (dearestVisit g k beyond) v c r) (omega (arith, leb-true noBound (c r) e, dearest-run-up g k beyond v c r)))
 
 -- R rounds and then R beyond them, each in any order, leave the entries
 pub dearest-rounds : (g : Grammar) (k : ℕ → ℕ) → Proper g → Limits g k → (vs us : List (List ℕ)) → AllRounds (g .prods) vs → AllRounds (g .prods) us → length vs ≡ g .rules → g .rules ≤ length us

@@ -14,7 +14,7 @@ use Rattle.theory.specs.Tables.{Proper}
 use Rattle.theory.specs.Dearest.{Dearest}
 use Rattle.theory.specs.DearestVisits.{noBound, addUp, dearestVisit, dearestCleared, endsAs}
 use Rattle.theory.proofs.Rounds.{run-keeps, run-grows}
-use Rattle.theory.proofs.Count.{sum-le, bit, bit-le}
+use Rattle.theory.proofs.Count.{count-upto}
 use Rattle.theory.proofs.DearestLevels.{levelDearest}
 use Rattle.theory.proofs.Dearest.{Limits, Backed, Beyond, Covered, cleared-backed, early-backed, beyond-kept, backed-exact, rest-covered, round-reach}
 use Rattle.theory.proofs.DearestRounds.{Risen, cleared-risen, risen-kept, dearest-climb, beyond-climb, boundless, ends-up}
@@ -80,13 +80,10 @@ module _ (g : Grammar) (k : ℕ → ℕ) (ok : Proper g) (lim : Limits g k) wher
     pub stage-less : (beyond changed : Bool) → beyond ≡ leb (g .rules) i → (changed ≡ true → run (dearestVisit g k beyond) v c ≡ c → ⊥) → stageLeft g (min (i + 1) (g .rules)) changed (run (dearestVisit g k beyond) v c) < stageLeft g i true c
     stage-less beyond true e told = go beyond (sym e) (told refl)
       where
-        atMost : (c : Costs) → boundless g c ≤ g .rules
-        atMost c = omega (arith, sum-le (g .rules) 1 (λ r. bit (leb noBound (c r))) (λ r lt. bit-le (leb noBound (c r))))
-
         go : (beyond : Bool) → leb (g .rules) i ≡ beyond → (run (dearestVisit g k beyond) v c ≡ c → ⊥) → g .rules - min (i + 1) (g .rules) + (g .rules - boundless g (run (dearestVisit g k beyond) v c)) + 1 < g .rules - i + (g .rules - boundless g c) + 1
         go false e t = omega (arith, leb-false (g .rules) i e, ends-up g k false v c)
         go true e t = elim (beyond-more v (rd .valid) c (s .risen)) [
           | inl h ↦ absurd (t h)
-          | inr l ↦ omega (arith, leb-true (g .rules) i e, l, atMost (run (dearestVisit g k true) v c))
+          | inr l ↦ omega (arith, leb-true (g .rules) i e, l, count-upto (g .rules) (λ r. leb noBound (run (dearestVisit g k true) v c r)))
         ]
     stage-less beyond false e told = omega arith

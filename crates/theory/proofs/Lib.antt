@@ -2,6 +2,7 @@ pub mod Bools
 pub mod Below
 pub mod Parts
 pub mod Yields
+pub mod Forms
 pub mod Rounds
 pub mod Fills
 pub mod Slices

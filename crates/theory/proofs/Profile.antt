@@ -1,5 +1,5 @@
 -- The profile: the tests on finished tables are the definitions, the first of each in turn is the least clash, and there is one verdict.
-use mathlib.Core.Bool.{Bool, true, false, _&&_, cond, true≢false}
+use mathlib.Core.Bool.{Bool, true, false, _&&_, true≢false}
 use mathlib.Core.List.{[], _∷_, List·Memᴰ, List·Memᴰ·head, List·Memᴰ·tail, List·Memᴰ·cases-cons, List·Memᴰ·not-nil, Memᴰ·append-right}
 use mathlib.Core.Logic.{inl, inr, _↔_}
 use mathlib.Core.Path.{_≡_, refl, sym, _∙_, ap, subst}
@@ -17,7 +17,7 @@ use Rattle.theory.specs.Profile.{Starts, own, after, Pair, Clash, shared
 use Rattle.theory.specs.Tables.{Proper, FirstExact, FollowExact}
 use Rattle.theory.specs.Visits.{Table, Marks, nullable, firstOf}
 use Rattle.theory.proofs.Below.{some-at, first-at, first-none, scan-true}
-use Rattle.theory.proofs.Bools.{and-split, and-join, or-split, or-left, or-right, eqb-same}
+use Rattle.theory.proofs.Bools.{and-split, and-join, or-split, or-left, or-right, eqb-same, tested}
 use Rattle.theory.proofs.Follow.{vanishes-true, vanishes-whole, ahead-true, ahead-whole}
 use Rattle.theory.proofs.Standing.{vanishes-yields, yields-vanishes, ahead-yields, yields-ahead, follow-stands}
 use Rattle.theory.proofs.Yields.{yields-token, derives→yields, yields→derives}
@@ -77,19 +77,18 @@ module _ (g : Grammar) (ok : Proper g) where
   clash-upto {q = q} {t = t} (shared k a b) = omega (arith, starts-below q (k .isProd) t b)
   clash-upto (both k a b e) = omega arith
 
+  clash-pair : {r p q t : ℕ} → Clash g r p q t → Pair g r p q
+  clash-pair (shared k a b) = k
+  clash-pair (both k a b e) = k
+
   pub clash-rule : {r p q t : ℕ} → Clash g r p q t → r < g .rules
-  clash-rule (shared k a b) = subst (λ z. z < g .rules) (k .higher) (ok .owner _ (k .isProd))
-  clash-rule (both k a b e) = subst (λ z. z < g .rules) (k .higher) (ok .owner _ (k .isProd))
+  clash-rule c = let k = clash-pair c in subst (λ z. z < g .rules) (k .higher) (ok .owner _ (k .isProd))
 
   -- where T stands for the token of the least clash, the two share none
   pub least-none : {r p q : ℕ} → LeastClash g r p q (g .tokens) → (t : ℕ) → Starts g p t → Starts g q t → ⊥
   least-none {r} {p} {q} l t a b =
-      let k = go (l .is) in
+      let k = clash-pair (l .is) in
       l .least r p q t (shared k a b) (inr (refl, inr (refl, inr (refl, starts-below q (k .isProd) t b))))
-    where
-      go : Clash g r p q (g .tokens) → Pair g r p q
-      go (shared k a b) = k
-      go (both k a b e) = k
 
 -- a row's marks: below T what the production may start with, at T whether it can vanish
 module _ (g : Grammar) (m : Marks) (f : Table) (p t : ℕ) where
@@ -162,19 +161,16 @@ module _ (g : Grammar) (ok : Proper g) (m : Marks) (h : FirstExact g m) (f : Tab
   passes-share : {r p q t : ℕ} → Clash g r p q t → sharesOf g m f p q t ≡ true
   passes-share {r} {p} {q} {t} c = clash-told g ok m h f x r p q t .0 c .1
 
-  pair : {r p q t : ℕ} → Clash g r p q t → Pair g r p q
-  pair {r} {p} {q} {t} c = clash-told g ok m h f x r p q t .0 c .0
-
   passes-pair : {r p q t : ℕ} → Clash g r p q t → pairOf g m f p q ≡ true
   passes-pair {r} {p} {q} {t} c =
-      let k = pair c in
+      let k = clash-pair g ok c in
       and-join (and-join (lt-ltb p q (k .rises)) (eq-eqb (g .owner q) (g .owner p) (k .higher ∙ sym (k .lower)))) (some-at (sharesOf g m f p q) (suc (g .tokens)) t (clash-upto g ok c) (passes-share c))
 
   passes-low : {r p q t : ℕ} → Clash g r p q t → lowOf g m f r p ≡ true
-  passes-low {r} {p} {q} {t} c = let k = pair c in and-join (eq-eqb (g .owner p) r (k .lower)) (some-at (pairOf g m f p) (g .prods) q (k .isProd) (passes-pair c))
+  passes-low {r} {p} {q} {t} c = let k = clash-pair g ok c in and-join (eq-eqb (g .owner p) r (k .lower)) (some-at (pairOf g m f p) (g .prods) q (k .isProd) (passes-pair c))
 
   passes-rule : {r p q t : ℕ} → Clash g r p q t → ruleOf g m f r ≡ true
-  passes-rule {r} {p} {q} {t} c = let k = pair c in some-at (lowOf g m f r) (g .prods) p (omega (arith, k .rises, k .isProd)) (passes-low c)
+  passes-rule {r} {p} {q} {t} c = let k = clash-pair g ok c in some-at (lowOf g m f r) (g .prods) p (omega (arith, k .rises, k .isProd)) (passes-low c)
 
   -- no rule passes
   pub none-passes : (n : ℕ) → FirstBelow (ruleOf g m f) (g .rules) false n → Judged g passes
@@ -204,12 +200,15 @@ module _ (g : Grammar) (ok : Proper g) (m : Marks) (h : FirstExact g m) (f : Tab
 -- the first number that passes a test
 least-first : (f : ℕ → Bool) (n : ℕ) → FirstBelow f n (ltb (leastOf f n) n) (leastOf f n)
 least-first f zero = first-none f 0 0 (λ i l. absurd (not-suc-le-zero l))
-least-first f (suc n) = go (ltb (leastOf f n) n) (f n) refl (least-first f n)
-  where
-    go : (a b : Bool) → f n ≡ b → FirstBelow f n a (leastOf f n) → FirstBelow f (suc n) (ltb (cond a (leastOf f n) (cond b n (suc n))) (suc n)) (cond a (leastOf f n) (cond b n (suc n)))
-    go true b e k = rw (lt-ltb (leastOf f n) (suc n) (omega (arith, k .below refl))) (first-at f (suc n) (leastOf f n) (omega (arith, k .below refl)) (k .passes refl) (k .first refl))
-    go false true e k = rw (lt-ltb n (suc n) (omega arith)) (first-at f (suc n) n (omega arith) e (k .none refl))
-    go false false e k = rw (le-ltb (suc n) (suc n) (omega arith)) (first-none f (suc n) (suc n) (λ i l. elim (eq-or-lt-of-le (le-of-suc-le-suc l)) [ inl q ↦ ap f q ∙ e | inr j ↦ k .none refl i j ]))
+least-first f (suc n) =
+    let k = least-first f n in
+    elim (tested (ltb (leastOf f n) n)) [
+      | inl a ↦ rw (a, lt-ltb (leastOf f n) (suc n) (omega (arith, k .below a))) (first-at f (suc n) (leastOf f n) (omega (arith, k .below a)) (k .passes a) (k .first a))
+      | inr a ↦ elim (tested (f n)) [
+        | inl e ↦ rw (a, e, lt-ltb n (suc n) (omega arith)) (first-at f (suc n) n (omega arith) e (k .none a))
+        | inr e ↦ rw (a, e, le-ltb (suc n) (suc n) (omega arith)) (first-none f (suc n) (suc n) (λ i l. elim (eq-or-lt-of-le (le-of-suc-le-suc l)) [ inl q ↦ ap f q ∙ e | inr j ↦ k .none a i j ]))
+      ]
+    ]
 
 -- a test that some number below n passes has a first one
 least-of : (f : ℕ → Bool) (n : ℕ) → some n f ≡ true → FirstBelow f n true (leastOf f n)
@@ -217,19 +216,17 @@ least-of f n e = scan-true f n (leastOf f n) e (least-first f n)
 
 -- there is a verdict, and the tests give it
 pub verdict-judged : (g : Grammar) → Proper g → (m : Marks) → FirstExact g m → (f : Table) → FollowExact g f → Judged g (verdictBy g m f)
-verdict-judged g ok m h f x = go (ltb (leastOf (ruleOf g m f) (g .rules)) (g .rules)) (least-first (ruleOf g m f) (g .rules))
-  where
-    go : (a : Bool) → FirstBelow (ruleOf g m f) (g .rules) a (leastOf (ruleOf g m f) (g .rules)) → Judged g
-        (let r = leastOf (ruleOf g m f) (g .rules) in
-        let p = leastOf (lowOf g m f r) (g .prods) in
-        let q = leastOf (pairOf g m f p) (g .prods) in
-        cond a (clashes r p q (leastOf (sharesOf g m f p q) (suc (g .tokens)))) passes)
-    go false b = none-passes g ok m h f x _ b
-    go true b =
-        let r = leastOf (ruleOf g m f) (g .rules) in
-        let low = least-of (lowOf g m f r) (g .prods) (b .passes refl) in
-        let p = leastOf (lowOf g m f r) (g .prods) in
-        let high = least-of (pairOf g m f p) (g .prods) (and-split (eqb (g .owner p) r) _ (low .passes refl) .1) in
-        let q = leastOf (pairOf g m f p) (g .prods) in
-        let token = least-of (sharesOf g m f p q) (suc (g .tokens)) (and-split (ltb p q && eqb (g .owner q) (g .owner p)) _ (high .passes refl) .1) in
-        found-least g ok m h f x r p q (leastOf (sharesOf g m f p q) (suc (g .tokens))) (record { rule = b; low = low; high = high; token = token })
+verdict-judged g ok m h f x =
+    let r = leastOf (ruleOf g m f) (g .rules) in
+    let p = leastOf (lowOf g m f r) (g .prods) in
+    let q = leastOf (pairOf g m f p) (g .prods) in
+    let first = least-first (ruleOf g m f) (g .rules) in
+    elim (tested (ltb r (g .rules))) [
+      | inr e ↦ rw e (none-passes g ok m h f x _ (rw e at first))
+      | inl e ↦
+          let b : FirstBelow (ruleOf g m f) (g .rules) true r = rw e at first in
+          let low = least-of (lowOf g m f r) (g .prods) (b .passes refl) in
+          let high = least-of (pairOf g m f p) (g .prods) (and-split (eqb (g .owner p) r) _ (low .passes refl) .1) in
+          let token = least-of (sharesOf g m f p q) (suc (g .tokens)) (and-split (ltb p q && eqb (g .owner q) (g .owner p)) _ (high .passes refl) .1) in
+          rw e (found-least g ok m h f x r p q (leastOf (sharesOf g m f p q) (suc (g .tokens))) (record { rule = b; low = low; high = high; token = token }))
+    ]

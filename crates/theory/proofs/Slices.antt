@@ -1,6 +1,6 @@
 -- Slices, for any kind of table: their visits, that a done job has left the defined table, and when a job is done.
-use mathlib.Core.Bool.{Bool, true, false, not, cond, _||_, true≢false}
-use mathlib.Core.List.{List, [], _∷_, _++_, List·Memᴰ, List·Memᴰ·head, List·Memᴰ·tail, List·Memᴰ·not-nil}
+use mathlib.Core.Bool.{Bool, true, false, not, _||_, true≢false}
+use mathlib.Core.List.{List, [], _∷_, _++_}
 use mathlib.Core.Logic.{_⊎_, inl, inr}
 use mathlib.Core.Path.{_≡_, refl, sym, _∙_, ap, subst}
 use Prim.Native.Nat.{ℕ, zero, suc, _+_, _*_, _≤_, _<_}
@@ -8,12 +8,13 @@ use native.Mathlib.Decide.{decLe}
 use native.Mathlib.Nat.{mul-le-mul-right}
 use native.Mathlib.Omega.{arith}
 use lib.Dec.{eqb}
-use lib.ListN.{length}
+use lib.ListN.{length, length-append}
 use borrow.Author.Tests.{eqb-true, eqb-false}
 use Rattle.theory.specs.Fills.{Moves, Settles, turns}
-use Rattle.theory.specs.Rounds.{run, Valid, Round, AllRounds, rounds, Rest, AnyOrder}
-use Rattle.theory.proofs.Fills.{Filling, valid-append, valid-one, moves-none, round-more, turns-round}
-use Rattle.theory.proofs.Rounds.{run-append, rounds-keeps, joined, joined-valid, rounds-run, run-grows}
+use Rattle.theory.proofs.Bools.{tested}
+use Rattle.theory.specs.Rounds.{run, Round, AllRounds, rounds, Rest, AnyOrder}
+use Rattle.theory.proofs.Fills.{Filling, valid-append, turns-valid, moves-none, round-more, turns-round}
+use Rattle.theory.proofs.Rounds.{run-append, run-still, rounds-keeps, joined, joined-valid, rounds-run, run-grows}
 use Rattle.theory.specs.Slices.{Progress, fresh, ended, after, Slice, full, over, visit, up, rising, Slices, none, more}
 
 -- rounds and one more
@@ -24,18 +25,6 @@ rounds-snoc step (u ∷ vs) v s = rounds-snoc step vs v (run step u s)
 all-snoc : {P : ℕ} (vs : List (List ℕ)) (v : List ℕ) → AllRounds P vs → Round P v → AllRounds P (vs ++ (v ∷ []))
 all-snoc [] v h r = (r, tt)
 all-snoc (u ∷ vs) v h r = (h .0, all-snoc vs v (h .1) r)
-
-long-snoc : (vs : List (List ℕ)) (v : List ℕ) → length (vs ++ (v ∷ [])) ≡ length vs + 1
-long-snoc [] v = refl
-long-snoc (u ∷ vs) v = omega (arith, long-snoc vs v)
-
-run-still : {S : Type 0} (step : ℕ → S → S) (s : S) (v : List ℕ) → ((p : ℕ) → List·Memᴰ p v → step p s ≡ s) → run step v s ≡ s
-run-still step s [] h = refl
-run-still step s (p ∷ v) h = rw (h p (List·Memᴰ·head refl)) (run-still step s v (λ q k. h q (List·Memᴰ·tail k)))
-
-part-valid : (P n : ℕ) → n ≤ P → Valid P (turns false P n)
-part-valid P zero l p m = absurd (List·Memᴰ·not-nil m)
-part-valid P (suc n) l p m = valid-append {v = turns false P n} (λ q k. part-valid P n (omega arith) q k) (valid-one l) p m
 
 -- a slice makes the visits asked for, fewer only when the job is or becomes done
 pub made-all : {M : Type 0} {Visit : ℕ → M → Bool → M → Type 0} {P n m : ℕ} {j i : Progress} {a d : M} → Slice Visit P n j a m i d → (m ≡ n) ⊎ ((m < n) × (i .done ≡ true))
@@ -85,23 +74,16 @@ pub record Sliceable {M S : Type 0} (step : ℕ → S → S) (view : M → S) (K
   pub held : (a b : M) → Keeps a b → Held a → Held b
   pub moves : (p : ℕ) → p < P → (a b : M) (x : Bool) → Held a → Visit p a x b → Moves step view Keeps (p ∷ []) a x b
 
--- where the next production is, and where it stays
+-- where the next production is
 next-up : (P : ℕ) (x : Bool) (j : Progress) → after P x j .next ≡ up P (j .next)
-next-up P x j = go (eqb (j .next + 1) P)
-  where
-    go : (b : Bool) → cond b (ended (j .changed || x)) (record { next = j .next + 1; changed = j .changed || x; done = false }) .next ≡ cond b 0 (j .next + 1)
-    go true = refl
-    go false = refl
+next-up P x j = elim (tested (eqb (j .next + 1) P)) [ inl e ↦ rw e | inr e ↦ rw e ]
 
-up-below : (P p : ℕ) → p < P → up P p < P
-up-below P p l = go (eqb (p + 1) P) refl
-  where
-    go : (b : Bool) → eqb (p + 1) P ≡ b → cond b 0 (p + 1) < P
-    go true e = omega arith
-    go false e = omega (arith, eqb-false (p + 1) P e)
+-- a visit ends a round, or goes on
+after-cases : (P : ℕ) (x : Bool) (j : Progress) → ((j .next + 1 ≡ P) × (after P x j ≡ ended (j .changed || x))) ⊎ ((j .next + 1 ≡ P → ⊥) × (after P x j ≡ record { next = j .next + 1; changed = j .changed || x; done = false }))
+after-cases P x j = elim (tested (eqb (j .next + 1) P)) [ inl e ↦ inl (eqb-true (j .next + 1) P e, rw e) | inr e ↦ inr (eqb-false (j .next + 1) P e, rw e) ]
 
 pub after-below : (P : ℕ) (x : Bool) (j : Progress) → j .next < P → after P x j .next < P
-after-below P x j l = rw (next-up P x j) (up-below P (j .next) l)
+after-below P x j l = elim (after-cases P x j) [ inl e ↦ rw (e .1) (omega arith) | inr e ↦ rw (e .1) (omega (arith, e .0)) ]
 
 module _ {M S : Type 0} {step : ℕ → S → S} {view : M → S} {Keeps : M → M → Type 0} {P : ℕ} {Visit : ℕ → M → Bool → M → Type 0} (f : Sliceable step view Keeps P Visit) where
   -- the visits of a slice: in rising order, starting again at 0
@@ -127,17 +109,10 @@ module _ {M S : Type 0} {step : ℕ → S → S} {view : M → S} {Keeps : M →
       let calm : (j .changed || x) ≡ false = rw (c, o .0) in
       let ih : after P x j .changed ≡ false → after P x j .done ≡ false → P ≤ after P x j .next + n → (i .done ≡ true) × (d ≡ b) =
       λ y z u. round-done s (after-below P x j l) (rw (o .1) h) (rw (o .1) r) y z u in
-      let w = go (eqb (j .next + 1) P) refl calm s ih in
-      (w .0, w .1 ∙ o .1)
-    where
-      go : (z : Bool) → eqb (j .next + 1) P ≡ z → (j .changed || x) ≡ false
-          → Slice Visit P n (cond z (ended (j .changed || x)) (record { next = j .next + 1; changed = j .changed || x; done = false })) b m i d
-          → (cond z (ended (j .changed || x)) (record { next = j .next + 1; changed = j .changed || x; done = false }) .changed ≡ false
-          → cond z (ended (j .changed || x)) (record { next = j .next + 1; changed = j .changed || x; done = false }) .done ≡ false
-          → P ≤ cond z (ended (j .changed || x)) (record { next = j .next + 1; changed = j .changed || x; done = false }) .next + n → (i .done ≡ true) × (d ≡ b))
-          → (i .done ≡ true) × (d ≡ b)
-      go true g calm t ih = let w = done-still t (ap not calm) in (ap (λ (y : Progress). y .done) (w .1) ∙ ap not calm, w .2)
-      go false g calm t ih = ih calm refl (omega arith)
+      elim (after-cases P x j) [
+        | inl u ↦ let w = done-still s (ap (λ (y : Progress). y .done) (u .1) ∙ ap not calm) in (ap (λ (y : Progress). y .done) (w .1 ∙ u .1) ∙ ap not calm, w .2 ∙ o .1)
+        | inr u ↦ let w = ih (ap (λ (y : Progress). y .changed) (u .1) ∙ calm) (ap (λ (y : Progress). y .done) (u .1)) (omega (arith, ap (λ (y : Progress). y .next) (u .1))) in (w .0, w .1 ∙ o .1)
+      ]
 
   -- from cleared memory
   module _ {bound : ℕ} {cleared : S} {Holds Exact : S → Type 0} (any : AnyOrder step cleared P bound Holds Exact) (start : M) (begins : f .Held start) (shown : view start ≡ cleared) (inv : f .filling .Inv (view start)) where
@@ -162,9 +137,6 @@ module _ {M S : Type 0} {step : ℕ → S → S} {view : M → S} {Keeps : M →
     under-inv : {m : ℕ} {j : Progress} {b : M} (u : Under m j b) → f .filling .Inv (view (u .begin))
     under-inv u = rw (u .ran) (rounds-keeps step P (f .filling .Inv) (f .filling .climb .kept) (u .whole) (u .rounded) (view start) inv)
 
-    under-held : {m : ℕ} {j : Progress} {b : M} (u : Under m j b) → f .Held b
-    under-held {b = b} u = f .held (u .begin) b (u .part .keeps) (f .held start (u .begin) (u .keeps) begins)
-
     -- a round that changed something was not one more than the bound
     under-few : {m : ℕ} {j : Progress} {b d : M} (u : Under m j b) → Moves step view Keeps (turns false P P) (u .begin) true d → length (u .whole) < bound
     under-few {d = d} u o = elim (decLe bound (length (u .whole))) [
@@ -182,16 +154,13 @@ module _ {M S : Type 0} {step : ℕ → S → S} {view : M → S} {Keeps : M →
       going = refl;
       whole = u .whole ++ (turns false P P ∷ []);
       rounded = all-snoc (u .whole) (turns false P P) (u .rounded) (turns-round false P);
-      few = omega (arith, under-few u o, long-snoc (u .whole) (turns false P P));
-      counts = count;
+      few = omega (arith, under-few u o, length-append (u .whole) (turns false P P ∷ []));
+      counts = rw (length-append (u .whole) (turns false P P ∷ [])) (omega (arith, u .counts, e));
       begin = d;
       ran = o .ran ∙ ap (run step (turns false P P)) (u .ran) ∙ sym (rounds-snoc step (u .whole) (turns false P P) (view start));
       keeps = f .filling .then start (u .begin) d (u .keeps) (o .keeps);
       part = moves-none (f .filling) d;
     }
-      where
-        count : suc m ≡ length (u .whole ++ (turns false P P ∷ [])) * P + 0
-        count = rw (long-snoc (u .whole) (turns false P P)) (omega (arith, u .counts, e))
 
     -- a round without one leaves the job done
     ends : {m : ℕ} {j : Progress} {b d : M} (u : Under m j b) → Moves step view Keeps (turns false P P) (u .begin) false d → Over (ended false) d
@@ -211,41 +180,36 @@ module _ {M S : Type 0} {step : ℕ → S → S} {view : M → S} {Keeps : M →
 
     -- one visit
     on : {m : ℕ} {j : Progress} {b d : M} (x : Bool) → Under m j b → Visit (j .next) b x d → Under (suc m) (after P x j) d ⊎ Over (after P x j) d
-    on {m} {j} {b} {d} x u v = go (eqb (j .next + 1) P) refl
+    on {m} {j} {b} {d} x u v = elim (after-cases P x j) [
+      | inl k ↦ rw (k .1) (turn (j .changed || x) (subst (λ n. Moves step view Keeps (turns false P n) (u .begin) (j .changed || x) d) (k .0) longer) (k .0))
+      | inr k ↦ rw (k .1) (inl (record {
+        below = omega (arith, k .0, u .below);
+        going = refl;
+        whole = u .whole;
+        rounded = u .rounded;
+        few = u .few;
+        counts = omega (arith, u .counts);
+        begin = u .begin;
+        ran = u .ran;
+        keeps = u .keeps;
+        part = longer;
+      }))
+    ]
       where
         longer : Moves step view Keeps (turns false P (j .next + 1)) (u .begin) (j .changed || x) d
-        longer = round-more (f .filling) false (j .next) (j .next) (u .below) refl (under-inv u) (u .part) (f .moves (j .next) (u .below) b d x (under-held u) v)
+        longer = round-more (f .filling) false (j .next) (j .next) (u .below) refl (under-inv u) (u .part) (f .moves (j .next) (u .below) b d x (f .held (u .begin) b (u .part .keeps) (f .held start (u .begin) (u .keeps) begins)) v)
 
-        turn : (e : j .next + 1 ≡ P) (y : Bool) → (j .changed || x) ≡ y → Under (suc m) (ended y) d ⊎ Over (ended y) d
-        turn e true q = inl (again u e (subst (λ z. Moves step view Keeps (turns false P P) (u .begin) z d) q (subst (λ n. Moves step view Keeps (turns false P n) (u .begin) (j .changed || x) d) e longer)))
-        turn e false q = inr (ends u (subst (λ z. Moves step view Keeps (turns false P P) (u .begin) z d) q (subst (λ n. Moves step view Keeps (turns false P n) (u .begin) (j .changed || x) d) e longer)))
-
-        go : (z : Bool) → eqb (j .next + 1) P ≡ z
-            → Under (suc m) (cond z (ended (j .changed || x)) (record { next = j .next + 1; changed = j .changed || x; done = false })) d
-            ⊎ Over (cond z (ended (j .changed || x)) (record { next = j .next + 1; changed = j .changed || x; done = false })) d
-        go true e = turn (eqb-true (j .next + 1) P e) (j .changed || x) refl
-        go false e = inl (record {
-          below = omega (arith, eqb-false (j .next + 1) P e, u .below);
-          going = refl;
-          whole = u .whole;
-          rounded = u .rounded;
-          few = u .few;
-          counts = omega (arith, u .counts);
-          begin = u .begin;
-          ran = u .ran;
-          keeps = u .keeps;
-          part = longer;
-        })
+        turn : (y : Bool) → Moves step view Keeps (turns false P P) (u .begin) y d → j .next + 1 ≡ P → Under (suc m) (ended y) d ⊎ Over (ended y) d
+        turn true o e = inl (again u e o)
+        turn false o e = inr (ends u o)
 
     slice-on : {n m t : ℕ} {j i : Progress} {a d : M} → Slice Visit P n j a m i d → Under t j a → Under (t + n) i d ⊎ Over i d
     slice-on {t = t} (full {j = j} {a = a}) u = inl (subst (λ z. Under z j a) (let e : t ≡ t + 0 = omega arith in e) u)
     slice-on (over e) u = absurd (true≢false (sym e ∙ u .going))
-    slice-on {t = t} (visit {n = n} {m = m} {j = j} {i = i} {a = a} {b = b} {d = d} x e v s) u =
-        let ih : Under (suc t) (after P x j) b → Under (suc t + n) i d ⊎ Over i d = λ w. slice-on s w in
-        elim (on x u v) [
-          | inl w ↦ subst (λ z. Under z i d ⊎ Over i d) (let q : suc t + n ≡ t + suc n = omega arith in q) (ih w)
-          | inr w ↦ let k = done-still s (w .shut) in inr (subst (λ z. Over z d) (sym (k .1)) (subst (λ z. Over (after P x j) z) (sym (k .2)) w))
-        ]
+    slice-on {t = t} (visit {n = n} {m = m} {j = j} {i = i} {a = a} {b = b} {d = d} x e v s) u = elim (on x u v) [
+      | inl w ↦ subst (λ z. Under z i d ⊎ Over i d) (let q : suc t + n ≡ t + suc n = omega arith in q) (slice-on s w)
+      | inr w ↦ let k = done-still s (w .shut) in inr (subst (λ z. Over z d) (sym (k .1)) (subst (λ z. Over (after P x j) z) (sym (k .2)) w))
+    ]
 
     slices-over : {t : ℕ} {j i : Progress} {a d : M} → Slices Visit P t j a i d → Over j a → Over i d
     slices-over none w = w
@@ -255,12 +219,10 @@ module _ {M S : Type 0} {step : ℕ → S → S} {view : M → S} {Keeps : M →
 
     slices-on : {s t : ℕ} {j i : Progress} {a d : M} → Slices Visit P s j a i d → Under t j a → Under (t + s) i d ⊎ Over i d
     slices-on {t = t} (none {j = j} {a = a}) u = inl (subst (λ z. Under z j a) (let e : t ≡ t + 0 = omega arith in e) u)
-    slices-on {s = s} {t = t} (more {s = r} {j = j} {i = i} {k = k} {a = a} {b = b} {d = d} n e x y) u =
-        let ih : Under (t + n) i b → Under (t + n + r) k d ⊎ Over k d = λ w. slices-on y w in
-        elim (slice-on x u) [
-          | inl w ↦ subst (λ z. Under z k d ⊎ Over k d) (let q : t + n + r ≡ t + s = omega (arith, e) in q) (ih w)
-          | inr w ↦ inr (slices-over y w)
-        ]
+    slices-on {s = s} {t = t} (more {s = r} {j = j} {i = i} {k = k} {a = a} {b = b} {d = d} n e x y) u = elim (slice-on x u) [
+      | inl w ↦ subst (λ z. Under z k d ⊎ Over k d) (let q : t + n + r ≡ t + s = omega (arith, e) in q) (slices-on y w)
+      | inr w ↦ inr (slices-over y w)
+    ]
 
     begun : 0 < P → Under 0 fresh start
     begun l = record {
@@ -287,7 +249,7 @@ module _ {M S : Type 0} {step : ℕ → S → S} {view : M → S} {Keeps : M →
         | inl u ↦
             let v = joined (u .whole) ++ turns false P (i .next) in
             let q : view d ≡ run step v cleared = u .part .ran ∙ ap (run step (turns false P (i .next))) (u .ran ∙ rounds-run step (u .whole) (view start)) ∙ sym (run-append step (joined (u .whole)) (turns false P (i .next)) (view start)) ∙ ap (run step v) shown in
-            rw q (any .always v (valid-append {v = joined (u .whole)} (joined-valid (u .whole) (u .rounded)) (part-valid P (i .next) (omega (arith, u .below)))))
+            rw q (any .always v (valid-append {v = joined (u .whole)} (joined-valid (u .whole) (u .rounded)) (turns-valid false P (i .next) (omega (arith, u .below)))))
         | inr w ↦
             let k = w .settles in
             let q : view d ≡ run step (k .visits) cleared = k .ran ∙ ap (run step (k .visits)) shown in
@@ -296,7 +258,7 @@ module _ {M S : Type 0} {step : ℕ → S → S} {view : M → S} {Keeps : M →
 
       -- after one round more than the bound the job is done, however the visits are divided into slices
       pub done-by : (bound + 1) * P ≤ t → i .done ≡ true
-      done-by l = elim (slices-on s (begun some)) [ inl u ↦ absurd (late u) | inr w ↦ w .shut ]
-        where
-          late : Under (0 + t) i d → ⊥
-          late u = let few : length (u .whole) * P ≤ bound * P = mul-le-mul-right P (u .few) in omega (arith, u .counts, u .below)
+      done-by l = elim (slices-on s (begun some)) [
+        | inl u ↦ let few : length (u .whole) * P ≤ bound * P = mul-le-mul-right P (u .few) in absurd (omega (arith, u .counts, u .below))
+        | inr w ↦ w .shut
+      ]

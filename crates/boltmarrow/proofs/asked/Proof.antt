@@ -1,30 +1,19 @@
-use mathlib.Core.Path.{sym, ap}
+use mathlib.Core.Path.{sym, _∙_, ap}
 use Rattle.boltmarrow.specs.Exports.{askedAnswer}
 use borrow.Author.Needs.{needs}
 use Rattle.boltmarrow.proofs.asked.Statement.{statement}
 use Rattle.boltmarrow.proofs.asked.Tie as tie
 
-enum-told : tie.Need-enum-told
-enum-told c = search needs
-
-enum-told-2 : tie.Need-enum-told-2
-enum-told-2 c = search needs
-
-enum-known-a : tie.Need-enum-known-a
-enum-known-a c = search needs
-
-cast-t4 : tie.Need-cast-t4
-cast-t4 c = search needs
-
-returns : tie.Need-returns
-returns c = sym (ap askedAnswer (c .enum-told .given .1))
-
-returns-2 : tie.Need-returns-2
-returns-2 c = sym (ap askedAnswer (c .enum-told2 .given .1))
-
-returns-3 : tie.Need-returns-3
-returns-3 c = sym (ap askedAnswer (c .before .a .given .1))
-
 pub asked-spec : {M : Type 1} → statement M
 asked-spec =
-    tie.close (tie.spec enum-told enum-told-2 enum-known-a cast-t4 returns returns-2 returns-3)
+    tie.close
+    (tie.spec
+    (λ c. search needs)  -- enum-told
+    (λ c κs. search needs)  -- answered-requires
+    (λ c. search needs)  -- enum-told-2
+    (λ c κs. search needs)  -- answered-requires-2
+    (λ c. search needs)  -- enum-known-a
+    (λ c κs. search needs)  -- refused-requires
+    (λ c. c .answered .ensures ∙ sym (ap askedAnswer (c .before .enum-told .given .1)))  -- returns
+    (λ c. c .answered2 .ensures ∙ sym (ap askedAnswer (c .before .enum-told2 .given .1)))  -- returns-2
+    (λ c. c .refused .ensures ∙ sym (ap askedAnswer (c .before .before .a .given .1))))  -- returns-3

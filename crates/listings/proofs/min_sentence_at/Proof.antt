@@ -3,21 +3,6 @@ use borrow.Author.Needs.{needs}
 use Rattle.listings.proofs.min_sentence_at.Statement.{statement}
 use Rattle.listings.proofs.min_sentence_at.Tie as tie
 
-wide-requires : tie.Need-wide-requires
-wide-requires c κs = search needs
-
-due-requires : tie.Need-due-requires
-due-requires c κs = search needs
-
-enum-told : tie.Need-enum-told
-enum-told c = search needs
-
-enum-told-2 : tie.Need-enum-told-2
-enum-told-2 c = search needs
-
-number-requires : tie.Need-number-requires
-number-requires c κs = search needs
-
 returns : tie.Need-returns
 returns c = let t = c .before in let d = t .before .before in let w = d .before in ask-number-refused _ _ _ _ _ _ (w .wide .ensures .0) _ (d .due .ensures) _ _ (t .enum-told2 .given .1) (c .number .ensures) _ _
 
@@ -27,18 +12,6 @@ work-requires c κs = let t = c .before .before .before .before .before in let d
 number-answer-requires : tie.Need-number-answer-requires
 number-answer-requires c κs = let o = c .before .before .before .before .before .before .before .before .before .before .before .before in let t = o .before .before .before .before .before .before in let d = t .before .before in ask-number _ _ _ _ _ _ (d .due .ensures) (t .enum-told .given .1) _ _ _ _ _ (o .work .ensures)
 
-same-length : tie.Need-same-length
-same-length c = search needs
-
-same-length-2 : tie.Need-same-length-2
-same-length-2 c = search needs
-
-same-length-3 : tie.Need-same-length-3
-same-length-3 c = search needs
-
-same-length-4 : tie.Need-same-length-4
-same-length-4 c = search needs
-
 returns-2 : tie.Need-returns-2
 returns-2 c = let a = c .before .before in let o = a .before .before .before .before .before .before .before .before .before .before .before .before .before in let t = o .before .before .before .before .before .before in let d = t .before .before in let w = d .before in ask-numbered _ _ _ _ _ _ (w .wide .ensures .0) _ (d .due .ensures) (t .enum-told .given .1) _ _ _ _ _ (o .work .ensures) _ _ _ _ (a .number-answer .ensures)
 
@@ -46,16 +19,16 @@ pub min-sentence-at-spec : {M : Type 1} → statement M
 min-sentence-at-spec =
     tie.close
     (tie.spec
-    wide-requires
-    due-requires
-    enum-told
-    enum-told-2
-    number-requires
+    (λ c κs. search needs)  -- wide-requires
+    (λ c κs. search needs)  -- due-requires
+    (λ c. search needs)  -- enum-told
+    (λ c. search needs)  -- enum-told-2
+    (λ c κs. search needs)  -- number-requires
     returns
     work-requires
     number-answer-requires
-    same-length
-    same-length-2
-    same-length-3
-    same-length-4
+    (λ c. search needs)  -- same-length
+    (λ c. search needs)  -- same-length-2
+    (λ c. search needs)  -- same-length-3
+    (λ c. search needs)  -- same-length-4
     returns-2)

@@ -3,7 +3,7 @@ use crate::COUNT_MANY;
 use crate::COUNT_MAX;
 use crate::COUNT_NONE;
 use costs::inner::add;
-use costs::inner::entry_at;
+use engine::inner::cost::entry_at;
 use grammar::inner::start_at;
 use grammar::inner::wide;
 use sentences::inner::choices::cheapest_from;
@@ -11,7 +11,7 @@ ghost use mathlib.Core.Path.{_≡_};
 ghost use Prim.Native.Nat.{_*_, _≤_, min};
 ghost use Rattle.theory.specs.Entries.{countMany};
 ghost use Rattle.grammar.specs.Flat.{flat};
-ghost use Rattle.costs.specs.Lent.{costsOf};
+ghost use Rattle.engine.specs.Cost.{costsOf};
 ghost use Rattle.listings.specs.Calls.{CountsDefined};
 ghost use Rattle.listings.specs.Counting.{CountFillable, RuleCountable, RuleCounts, ProductionCountable, ProductionCounts};
 

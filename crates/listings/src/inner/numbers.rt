@@ -1,6 +1,6 @@
 // Number k of a rule: found by turning the places of its cheapest productions, measured, and written.
 use costs::inner::add;
-use costs::inner::entry_at;
+use engine::inner::cost::entry_at;
 use grammar::inner::start_at;
 use grammar::inner::wide;
 use odometer::inner::Turned;

@@ -10,41 +10,17 @@ Inv-loop rules owners starts symbols costs table rule tokens gap₀ t₀ gap t =
 abbrev μ-loop : tie.MeasureT-loop
 μ-loop rules owners starts symbols costs table rule tokens gap₀ t₀ gap t = tokens - t
 
-narrow-requires : tie.Need-narrow-requires Inv-loop μ-loop
-narrow-requires c κs = search needs
-
-loop-holds : tie.Need-loop-holds Inv-loop μ-loop
-loop-holds c = search needs
-
-is-set-requires : tie.Need-is-set-requires Inv-loop μ-loop
-is-set-requires c κs = search needs
-
-say-if-requires : tie.Need-say-if-requires Inv-loop μ-loop
-say-if-requires c κs = search needs
-
-add-t : tie.Need-add-t Inv-loop μ-loop
-add-t c = search needs
-
-loop-less : tie.Need-loop-less Inv-loop μ-loop
-loop-less c = search needs
-
-loop-again : tie.Need-loop-again Inv-loop μ-loop
-loop-again c = search needs
-
-returns : tie.Need-returns Inv-loop μ-loop
-returns c = search needs
-
 pub say-marks-spec : {M : Type 1} → statement M
 say-marks-spec =
     tie.close
     (tie.spec
     Inv-loop
     μ-loop
-    narrow-requires
-    loop-holds
-    is-set-requires
-    say-if-requires
-    add-t
-    loop-less
-    loop-again
-    returns)
+    (λ c κs. search needs)  -- narrow-requires
+    (λ c. search needs)  -- loop-holds
+    (λ c κs. search needs)  -- is-set-requires
+    (λ c κs. search needs)  -- say-if-requires
+    (λ c. search needs)  -- add-t
+    (λ c. search needs)  -- loop-less
+    (λ c. search needs)  -- loop-again
+    (λ c. search needs))  -- returns

@@ -11,49 +11,19 @@ Inv-loop rules owners starts symbols costs asked empty first cost₀ lengths₀ 
 abbrev μ-loop : tie.MeasureT-loop
 μ-loop rules owners starts symbols costs asked empty first cost₀ lengths₀ out₀ rule₀ cost lengths out rule = rules - rule
 
-loop-holds : tie.Need-loop-holds Inv-loop μ-loop
-loop-holds c = search needs
-
-asked-of-requires : tie.Need-asked-of-requires Inv-loop μ-loop
-asked-of-requires c κs = search needs
-
-slice-aggregate-say-rule : tie.Need-slice-aggregate-say-rule Inv-loop μ-loop
-slice-aggregate-say-rule c = search needs
-
-say-rule-requires : tie.Need-say-rule-requires Inv-loop μ-loop
-say-rule-requires c κs = search needs
-
-add-rule : tie.Need-add-rule Inv-loop μ-loop
-add-rule c = search needs
-
-loop-less : tie.Need-loop-less Inv-loop μ-loop
-loop-less c = search needs
-
-loop-again : tie.Need-loop-again Inv-loop μ-loop
-loop-again c = search needs
-
-same-length : tie.Need-same-length Inv-loop μ-loop
-same-length c = search needs
-
-same-length-2 : tie.Need-same-length-2 Inv-loop μ-loop
-same-length-2 c = search needs
-
-returns : tie.Need-returns Inv-loop μ-loop
-returns c = search needs
-
 pub say-rules-spec : {M : Type 1} → statement M
 say-rules-spec =
     tie.close
     (tie.spec
     Inv-loop
     μ-loop
-    loop-holds
-    asked-of-requires
-    slice-aggregate-say-rule
-    say-rule-requires
-    add-rule
-    loop-less
-    loop-again
-    same-length
-    same-length-2
-    returns)
+    (λ c. search needs)  -- loop-holds
+    (λ c κs. search needs)  -- asked-of-requires
+    (λ c. search needs)  -- slice-aggregate-say-rule
+    (λ c κs. search needs)  -- say-rule-requires
+    (λ c. search needs)  -- add-rule
+    (λ c. search needs)  -- loop-less
+    (λ c. search needs)  -- loop-again
+    (λ c. search needs)  -- same-length
+    (λ c. search needs)  -- same-length-2
+    (λ c. search needs))  -- returns

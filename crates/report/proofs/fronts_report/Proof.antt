@@ -6,18 +6,6 @@ use borrow.Author.Needs.{needs}
 use Rattle.report.proofs.fronts_report.Statement.{statement}
 use Rattle.report.proofs.fronts_report.Tie as tie
 
-wide-requires : tie.Need-wide-requires
-wide-requires c κs = search needs
-
-add-e : tie.Need-add-e
-add-e c = search needs
-
-wide-requires-2 : tie.Need-wide-requires-2
-wide-requires-2 c κs = search needs
-
-wide-requires-3 : tie.Need-wide-requires-3
-wide-requires-3 c κs = search needs
-
 slice-aggregate-grammar-report : tie.Need-slice-aggregate-grammar-report
 slice-aggregate-grammar-report c = let w = c .before .before .before in taken (w .wide .result) (w .before .before .before .before .before .before .args .owners .now) (omega arith)
 
@@ -38,9 +26,6 @@ grammar-report-requires c κs =
     let s = p .before .before .before .before .before .before in
     (fronts-well (s .args .c) _ _ _ _ _ _ _ (p .wide .ensures .0) (n .wide2 .ensures .0) (t .wide3 .ensures .0) (s .pre .1 .0), s .pre .1 .1)
 
-same-length : tie.Need-same-length
-same-length c = search needs
-
 returns : tie.Need-returns
 returns c =
     let a = c .before .before in
@@ -54,14 +39,14 @@ pub fronts-report-spec : {M : Type 1} → statement M
 fronts-report-spec =
     tie.close
     (tie.spec
-    wide-requires
-    add-e
-    wide-requires-2
-    wide-requires-3
+    (λ c κs. search needs)  -- wide-requires
+    (λ c. search needs)  -- add-e
+    (λ c κs. search needs)  -- wide-requires-2
+    (λ c κs. search needs)  -- wide-requires-3
     slice-aggregate-grammar-report
     slice-aggregate-grammar-report-2
     slice-aggregate-grammar-report-3
     slice-aggregate-grammar-report-4
     grammar-report-requires
-    same-length
+    (λ c. search needs)  -- same-length
     returns)

@@ -5,8 +5,8 @@ use Rattle.report.specs.Steps.{reportRoom}
 use Rattle.report.proofs.report_room.Statement.{statement}
 use Rattle.report.proofs.report_room.Tie as tie
 
-returns : tie.Need-returns
-returns c = sym (length-replicate {0} {A = ℕ} reportRoom 0)
-
 pub report-room-spec : {M : Type 1} → statement M
-report-room-spec = tie.close (tie.spec returns)
+report-room-spec =
+    tie.close
+    (tie.spec
+    (λ c. sym (length-replicate {0} {A = ℕ} reportRoom 0)))  -- returns

@@ -3,23 +3,11 @@ use borrow.Author.Needs.{needs}
 use Rattle.report.proofs.rule_line.Statement.{statement}
 use Rattle.report.proofs.rule_line.Tie as tie
 
-slice-aggregate-line : tie.Need-slice-aggregate-line
-slice-aggregate-line c = search needs
-
-line-requires : tie.Need-line-requires
-line-requires c κs = search needs
-
-slice-aggregate-append : tie.Need-slice-aggregate-append
-slice-aggregate-append c = search needs
-
 append-requires : tie.Need-append-requires
 append-requires c κs =
     let k = c .before .before .before in
     let s = k .before .before .before .before .before .before .before .before .before .before .before in
     (line-stands _ _ (s .pre .0) _ (s .pre .1 .0) _ _ (k .line2 .result) (k .line2 .ensures) (search needs), line-room _ _ (s .pre .0) _ (s .pre .1 .0) _ _ (k .line2 .result) (k .line2 .ensures) (search needs) _ _ (s .pre .1 .1))
-
-same-length : tie.Need-same-length
-same-length c = search needs
 
 returns : tie.Need-returns
 returns c =
@@ -32,9 +20,9 @@ pub rule-line-spec : {M : Type 1} → statement M
 rule-line-spec =
     tie.close
     (tie.spec
-    slice-aggregate-line
-    line-requires
-    slice-aggregate-append
+    (λ c. search needs)  -- slice-aggregate-line
+    (λ c κs. search needs)  -- line-requires
+    (λ c. search needs)  -- slice-aggregate-append
     append-requires
-    same-length
+    (λ c. search needs)  -- same-length
     returns)

@@ -3,9 +3,6 @@ use borrow.Author.Needs.{needs}
 use Rattle.report.proofs.tables_report.Statement.{statement}
 use Rattle.report.proofs.tables_report.Tie as tie
 
-fill-sets-requires : tie.Need-fill-sets-requires
-fill-sets-requires c κs = search needs
-
 fill-cost-requires : tie.Need-fill-cost-requires
 fill-cost-requires c κs = let s = c .before .before .before .before .before .before .before .before .before .before .before .before .before .before .before .before .before .before .before .before in record { well = s .pre .0 .well; long = s .pre .0 .cost-long }
 
@@ -16,34 +13,16 @@ lines-report-requires c κs =
     let s = f .before .before .before .before .before .before .before .before .before .before .before .before .before in
     (filled-ready _ (s .pre .0 .well) _ _ _ _ (f .fill-sets .ensures) (k .fill-cost .ensures), s .pre .1)
 
-same-length : tie.Need-same-length
-same-length c = search needs
-
-same-length-2 : tie.Need-same-length-2
-same-length-2 c = search needs
-
-same-length-3 : tie.Need-same-length-3
-same-length-3 c = search needs
-
-same-length-4 : tie.Need-same-length-4
-same-length-4 c = search needs
-
-same-length-5 : tie.Need-same-length-5
-same-length-5 c = search needs
-
-returns : tie.Need-returns
-returns c = search needs
-
 pub tables-report-spec : {M : Type 1} → statement M
 tables-report-spec =
     tie.close
     (tie.spec
-    fill-sets-requires
+    (λ c κs. search needs)  -- fill-sets-requires
     fill-cost-requires
     lines-report-requires
-    same-length
-    same-length-2
-    same-length-3
-    same-length-4
-    same-length-5
-    returns)
+    (λ c. search needs)  -- same-length
+    (λ c. search needs)  -- same-length-2
+    (λ c. search needs)  -- same-length-3
+    (λ c. search needs)  -- same-length-4
+    (λ c. search needs)  -- same-length-5
+    (λ c. search needs))  -- returns

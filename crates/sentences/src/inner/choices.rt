@@ -1,7 +1,7 @@
 // First choices: a rule's cost, and then its productions, going up, to the first that has it.
 use costs::COST_MAX;
-use costs::inner::entry_at;
 use costs::inner::sum;
+use engine::inner::cost::entry_at;
 use grammar::inner::links;
 use grammar::inner::prod_at;
 use grammar::inner::wide;

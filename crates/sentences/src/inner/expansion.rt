@@ -1,7 +1,7 @@
 // Expansion: a rule expands its first choice, which expands the rules in it in turn; the grounded levels left fall. Each
 // rule is expanded once: where its sentence has been written already, it is copied from there.
 use crate::inner::size;
-use costs::inner::entry_at;
+use engine::inner::cost::entry_at;
 use grammar::inner::start_at;
 use grammar::inner::wide;
 ghost use Prim.Native.Nat.{_+_};

@@ -2,14 +2,14 @@
 use crate::LENGTH_LONG;
 use crate::LENGTH_NONE;
 use costs::inner::add;
-use costs::inner::entry_at;
+use engine::inner::cost::entry_at;
 use grammar::inner::start_at;
 use grammar::inner::wide;
 use tables::inner::turn_at;
 ghost use mathlib.Core.Path.{_≡_};
 ghost use Rattle.grammar.specs.Flat.{flat, form};
 ghost use Rattle.tables.specs.Call.{Stepped};
-ghost use Rattle.costs.specs.Lent.{Part};
+ghost use Rattle.engine.specs.Cost.{Part};
 ghost use Rattle.sentences.specs.Lent.{lengthsOf};
 ghost use Rattle.sentences.specs.Measuring.{countOf, SymbolCounted, Countable, LengthReady, LengthBecame, LengthBegun, LengthRounds, LengthSettled, LengthFillable, LengthsBy};
 

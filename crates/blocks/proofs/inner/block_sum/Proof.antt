@@ -12,27 +12,6 @@ Inv-loop file b n sum₀ k₀ sum k = (k ≤ n) × (sum ≤ 255 * k) × (sum ≡
 abbrev μ-loop : tie.MeasureT-loop
 μ-loop file b n sum₀ k₀ sum k = n - k
 
-loop-holds : tie.Need-loop-holds Inv-loop μ-loop
-loop-holds c = search (needs, total-none)
-
-block-byte-requires : tie.Need-block-byte-requires Inv-loop μ-loop
-block-byte-requires c κs = search needs
-
-byte-requires : tie.Need-byte-requires Inv-loop μ-loop
-byte-requires c κs = search needs
-
-add-sum : tie.Need-add-sum Inv-loop μ-loop
-add-sum c = search needs
-
-add-k : tie.Need-add-k Inv-loop μ-loop
-add-k c = search needs
-
-loop-less : tie.Need-loop-less Inv-loop μ-loop
-loop-less c = search needs
-
-loop-again : tie.Need-loop-again Inv-loop μ-loop
-loop-again c = search (needs, total-more)
-
 returns : tie.Need-returns Inv-loop μ-loop
 unfolding blockSum
 returns c = search (needs, total-all)
@@ -43,11 +22,11 @@ block-sum-spec =
     (tie.spec
     Inv-loop
     μ-loop
-    loop-holds
-    block-byte-requires
-    byte-requires
-    add-sum
-    add-k
-    loop-less
-    loop-again
+    (λ c. search (needs, total-none))  -- loop-holds
+    (λ c κs. search needs)  -- block-byte-requires
+    (λ c κs. search needs)  -- byte-requires
+    (λ c. search needs)  -- add-sum
+    (λ c. search needs)  -- add-k
+    (λ c. search needs)  -- loop-less
+    (λ c. search (needs, total-more))  -- loop-again
     returns)

@@ -16,24 +16,9 @@ Inv-loop file n b₀ b = (n ≡ blocks file) × (b ≤ n) × (some b (λ j. chec
 abbrev μ-loop : tie.MeasureT-loop
 μ-loop file n b₀ b = n - b
 
-loop-holds : tie.Need-loop-holds Inv-loop μ-loop
-loop-holds c = search (needs, some-none)
-
-check-differs-requires : tie.Need-check-differs-requires Inv-loop μ-loop
-check-differs-requires c κs = search needs
-
 returns : tie.Need-returns Inv-loop μ-loop
 unfolding checksDiffer
 returns c = search (needs, some-yes, told)
-
-add-b : tie.Need-add-b Inv-loop μ-loop
-add-b c = search needs
-
-loop-less : tie.Need-loop-less Inv-loop μ-loop
-loop-less c = search needs
-
-loop-again : tie.Need-loop-again Inv-loop μ-loop
-loop-again c = search (needs, some-more, told)
 
 returns-2 : tie.Need-returns-2 Inv-loop μ-loop
 unfolding checksDiffer
@@ -45,10 +30,10 @@ checks-differ-spec =
     (tie.spec
     Inv-loop
     μ-loop
-    loop-holds
-    check-differs-requires
+    (λ c. search (needs, some-none))  -- loop-holds
+    (λ c κs. search needs)  -- check-differs-requires
     returns
-    add-b
-    loop-less
-    loop-again
+    (λ c. search needs)  -- add-b
+    (λ c. search needs)  -- loop-less
+    (λ c. search (needs, some-more, told))  -- loop-again
     returns-2)

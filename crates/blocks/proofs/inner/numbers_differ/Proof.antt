@@ -17,27 +17,9 @@ Inv-loop file n b₀ b = (n ≡ blocks file) × (b ≤ n) × (some b (λ j. not 
 abbrev μ-loop : tie.MeasureT-loop
 μ-loop file n b₀ b = n - b
 
-loop-holds : tie.Need-loop-holds Inv-loop μ-loop
-loop-holds c = search (needs, some-none)
-
-block-number-requires : tie.Need-block-number-requires Inv-loop μ-loop
-block-number-requires c κs = search needs
-
-wide-requires : tie.Need-wide-requires Inv-loop μ-loop
-wide-requires c κs = search needs
-
 returns : tie.Need-returns Inv-loop μ-loop
 unfolding numbersDiffer
 returns c = search (needs, some-yes, number-differs)
-
-add-b : tie.Need-add-b Inv-loop μ-loop
-add-b c = search needs
-
-loop-less : tie.Need-loop-less Inv-loop μ-loop
-loop-less c = search needs
-
-loop-again : tie.Need-loop-again Inv-loop μ-loop
-loop-again c = search (needs, some-more, number-same)
 
 returns-2 : tie.Need-returns-2 Inv-loop μ-loop
 unfolding numbersDiffer
@@ -49,11 +31,11 @@ numbers-differ-spec =
     (tie.spec
     Inv-loop
     μ-loop
-    loop-holds
-    block-number-requires
-    wide-requires
+    (λ c. search (needs, some-none))  -- loop-holds
+    (λ c κs. search needs)  -- block-number-requires
+    (λ c κs. search needs)  -- wide-requires
     returns
-    add-b
-    loop-less
-    loop-again
+    (λ c. search needs)  -- add-b
+    (λ c. search needs)  -- loop-less
+    (λ c. search (needs, some-more, number-same))  -- loop-again
     returns-2)

@@ -17,33 +17,9 @@ Inv-loop file from n k₀ k = (n ≡ 508 * blocks file - from) × (k ≤ n) × (
 abbrev μ-loop : tie.MeasureT-loop
 μ-loop file from n k₀ k = n - k
 
-mul-n : tie.Need-mul-n Inv-loop μ-loop
-mul-n c = search needs
-
-sub-n : tie.Need-sub-n Inv-loop μ-loop
-sub-n c = search needs
-
-loop-holds : tie.Need-loop-holds Inv-loop μ-loop
-loop-holds c = search (needs, some-none)
-
-add-payload-byte : tie.Need-add-payload-byte Inv-loop μ-loop
-add-payload-byte c = search needs
-
-payload-byte-requires : tie.Need-payload-byte-requires Inv-loop μ-loop
-payload-byte-requires c κs = search needs
-
 returns : tie.Need-returns Inv-loop μ-loop
 unfolding spareUsed
 returns c = search (needs, some-yes, spare-not)
-
-add-k : tie.Need-add-k Inv-loop μ-loop
-add-k c = search needs
-
-loop-less : tie.Need-loop-less Inv-loop μ-loop
-loop-less c = search needs
-
-loop-again : tie.Need-loop-again Inv-loop μ-loop
-loop-again c = search (needs, some-more, spare-zero)
 
 returns-2 : tie.Need-returns-2 Inv-loop μ-loop
 unfolding spareUsed
@@ -55,13 +31,13 @@ spare-used-spec =
     (tie.spec
     Inv-loop
     μ-loop
-    mul-n
-    sub-n
-    loop-holds
-    add-payload-byte
-    payload-byte-requires
+    (λ c. search needs)  -- mul-n
+    (λ c. search needs)  -- sub-n
+    (λ c. search (needs, some-none))  -- loop-holds
+    (λ c. search needs)  -- add-payload-byte
+    (λ c κs. search needs)  -- payload-byte-requires
     returns
-    add-k
-    loop-less
-    loop-again
+    (λ c. search needs)  -- add-k
+    (λ c. search needs)  -- loop-less
+    (λ c. search (needs, some-more, spare-zero))  -- loop-again
     returns-2)

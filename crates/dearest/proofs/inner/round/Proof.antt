@@ -5,10 +5,6 @@ use Rattle.dearest.proofs.Rounding.{DearestTurned, round-begin, round-r
 use borrow.Author.Needs.{needs}
 use Rattle.dearest.proofs.inner.round.Statement.{statement}
 use Rattle.dearest.proofs.inner.round.Tie as tie
-use Rattle.dearest.proofs.inner.round.Reads as reads
-use Rattle.dearest.proofs.inner.round.Lts as lts
-use Rattle.dearest.proofs.inner.step.Reads as step-reads
-use Rattle.tables.proofs.inner.turn_at.Reads as turn-at-reads
 
 abbrev Inv-loop : tie.InvT-loop
 Inv-loop rules owners starts symbols costs beyond down dearest₀ changed₀ i₀ dearest changed i = (i ≤ length owners) × DearestTurned (flat rules owners starts symbols costs) beyond down i dearest₀ changed dearest
@@ -19,23 +15,11 @@ abbrev μ-loop : tie.MeasureT-loop
 loop-holds : tie.Need-loop-holds Inv-loop μ-loop
 loop-holds c = let s = c .before .before .before .before .before in (search needs, round-begin _ _ (s .pre) (s .args .beyond) (s .args .down))
 
-turn-at-requires : tie.Need-turn-at-requires Inv-loop μ-loop
-turn-at-requires c κs = search needs
-
 step-requires : tie.Need-step-requires Inv-loop μ-loop
 step-requires c κs = let t = c .before in let l = t .before .before in let s = l .before .before .before .before .before .before in round-ready _ _ (s .pre) (s .args .beyond) _ _ _ _ (l .loop .inv .1) _ (t .before .loop-test .taken) (t .turn-at .ensures)
 
-add-i : tie.Need-add-i Inv-loop μ-loop
-add-i c = search needs
-
-loop-less : tie.Need-loop-less Inv-loop μ-loop
-loop-less c = search needs
-
 loop-again : tie.Need-loop-again Inv-loop μ-loop
 loop-again c = let x = c .before .before in let t = x .before .before in let l = t .before .before in let s = l .before .before .before .before .before .before in (search needs, round-more _ _ (s .pre) (s .args .beyond) _ _ _ _ (l .loop .inv .1) _ _ _ (t .before .loop-test .taken) (t .turn-at .ensures) (x .step .ensures))
-
-same-length : tie.Need-same-length Inv-loop μ-loop
-same-length c = c .before .loop .inv .1 .keeps
 
 returns : tie.Need-returns Inv-loop μ-loop
 returns c = let s = c .before .before .before .before .before .before .before in round-made _ _ (s .pre) (s .args .beyond) _ _ _ _ (c .before .loop .inv .1) (c .before .loop .inv .0) (c .loop-test .left)
@@ -47,10 +31,10 @@ round-spec =
     Inv-loop
     μ-loop
     loop-holds
-    turn-at-requires
+    (λ c κs. search needs)  -- turn-at-requires
     step-requires
-    add-i
-    loop-less
+    (λ c. search needs)  -- add-i
+    (λ c. search needs)  -- loop-less
     loop-again
-    same-length
+    (λ c. c .before .loop .inv .1 .keeps)  -- same-length
     returns)

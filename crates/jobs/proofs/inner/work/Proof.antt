@@ -18,9 +18,6 @@ abbrev μ-loop : tie.MeasureT-loop
 loop-holds : tie.Need-loop-holds Inv-loop μ-loop
 loop-holds c = (search needs, working-start _ _ _ _ _ _ (c .before .before .before .before .before .before .before .before .before .before .pre))
 
-wide-requires : tie.Need-wide-requires Inv-loop μ-loop
-wide-requires c κs = search needs
-
 step-requires : tie.Need-step-requires Inv-loop μ-loop
 step-requires c κs = let w = c .before .before .before .before .before in working-ready _ _ _ _ _ _ _ _ _ _ _ (w .before .before .loop .inv .1) _ (w .wide .ensures .0)
 
@@ -36,21 +33,6 @@ loop-less c = let i = c .before .before .before .before .before .before .before 
 loop-again : tie.Need-loop-again Inv-loop μ-loop
 loop-again c = let x = c .before .before .before .before .before .before .before .before .before .before .before in let w = x .before .before .before .before .before .before in let i = w .before in let l = i .before in (omega (arith, more-left (l .loop .made) (l .before .before .before .before .before .before .before .before .before .before .before .args .n) (l .loop .over) (i .loop-test .taken)), working-on _ _ _ _ _ _ _ _ (l .loop .over) _ _ (l .loop .inv .1) (l .before .before .before .before .before .before .before .before .before .before .before .args .n) _ (w .wide .ensures .0) (i .loop-test .taken) _ _ (x .step .ensures) _ _ _ (c .moved .ensures))
 
-same-length : tie.Need-same-length Inv-loop μ-loop
-same-length c = c .before .loop .inv .1 .long .first
-
-same-length-2 : tie.Need-same-length-2 Inv-loop μ-loop
-same-length-2 c = c .before .loop .inv .1 .long .empty
-
-same-length-3 : tie.Need-same-length-3 Inv-loop μ-loop
-same-length-3 c = c .before .loop .inv .1 .long .follow
-
-same-length-4 : tie.Need-same-length-4 Inv-loop μ-loop
-same-length-4 c = c .before .loop .inv .1 .long .productive
-
-same-length-5 : tie.Need-same-length-5 Inv-loop μ-loop
-same-length-5 c = c .before .loop .inv .1 .long .cost
-
 returns : tie.Need-returns Inv-loop μ-loop
 returns c = let l = c .before in working-end _ _ _ _ _ _ _ _ (l .loop .over) _ (l .loop .made) (l .loop .inv .1) (l .before .before .before .before .before .before .before .before .before .before .before .args .n) (l .loop .inv .0) (c .loop-test .left)
 
@@ -61,15 +43,15 @@ work-spec =
     Inv-loop
     μ-loop
     loop-holds
-    wide-requires
+    (λ c κs. search needs)  -- wide-requires
     step-requires
     moved-requires
     add-made
     loop-less
     loop-again
-    same-length
-    same-length-2
-    same-length-3
-    same-length-4
-    same-length-5
+    (λ c. c .before .loop .inv .1 .long .first)  -- same-length
+    (λ c. c .before .loop .inv .1 .long .empty)  -- same-length-2
+    (λ c. c .before .loop .inv .1 .long .follow)  -- same-length-3
+    (λ c. c .before .loop .inv .1 .long .productive)  -- same-length-4
+    (λ c. c .before .loop .inv .1 .long .cost)  -- same-length-5
     returns)

@@ -12,32 +12,8 @@ Inv-loop text out₀ at next₀ i₀ out next i = Copying text out₀ at out nex
 abbrev μ-loop : tie.MeasureT-loop
 μ-loop text out₀ at next₀ i₀ out next i = length text - i
 
-loop-holds : tie.Need-loop-holds Inv-loop μ-loop
-loop-holds c = search (needs, copy-start)
-
-shared-slice-read-out : tie.Need-shared-slice-read-out Inv-loop μ-loop
-shared-slice-read-out c = search needs
-
-slice-write-out : tie.Need-slice-write-out Inv-loop μ-loop
-slice-write-out c = search (needs, copy-in)
-
 add-next : tie.Need-add-next Inv-loop μ-loop
 add-next c = let t = c .before in let l = t .before in omega (arith, copy-in _ _ _ _ _ _ (l .loop .inv) (l .before .pre) (t .loop-test .taken))
-
-add-i : tie.Need-add-i Inv-loop μ-loop
-add-i c = search needs
-
-loop-less : tie.Need-loop-less Inv-loop μ-loop
-loop-less c = search needs
-
-loop-again : tie.Need-loop-again Inv-loop μ-loop
-loop-again c = search (needs, copy-on)
-
-same-length : tie.Need-same-length Inv-loop μ-loop
-same-length c = search needs
-
-returns : tie.Need-returns Inv-loop μ-loop
-returns c = search (needs, copy-end)
 
 pub copy-spec : {M : Type 1} → statement M
 copy-spec =
@@ -45,12 +21,12 @@ copy-spec =
     (tie.spec
     Inv-loop
     μ-loop
-    loop-holds
-    shared-slice-read-out
-    slice-write-out
+    (λ c. search (needs, copy-start))  -- loop-holds
+    (λ c. search needs)  -- shared-slice-read-out
+    (λ c. search (needs, copy-in))  -- slice-write-out
     add-next
-    add-i
-    loop-less
-    loop-again
-    same-length
-    returns)
+    (λ c. search needs)  -- add-i
+    (λ c. search needs)  -- loop-less
+    (λ c. search (needs, copy-on))  -- loop-again
+    (λ c. search needs)  -- same-length
+    (λ c. search (needs, copy-end)))  -- returns

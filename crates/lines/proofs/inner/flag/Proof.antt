@@ -2,11 +2,9 @@ use borrow.Author.Needs.{needs}
 use Rattle.lines.proofs.inner.flag.Statement.{statement}
 use Rattle.lines.proofs.inner.flag.Tie as tie
 
-returns : tie.Need-returns
-returns c = search needs
-
-returns-2 : tie.Need-returns-2
-returns-2 c = search needs
-
 pub flag-spec : {M : Type 1} → statement M
-flag-spec = tie.close (tie.spec returns returns-2)
+flag-spec =
+    tie.close
+    (tie.spec
+    (λ c. search needs)  -- returns
+    (λ c. search needs))  -- returns-2

@@ -3,8 +3,8 @@ use borrow.Author.Needs.{needs}
 use Rattle.lines.proofs.inner.out_wrong.Statement.{statement}
 use Rattle.lines.proofs.inner.out_wrong.Tie as tie
 
-returns : tie.Need-returns
-returns c = search (needs, out-not)
-
 pub out-wrong-spec : {M : Type 1} → statement M
-out-wrong-spec = tie.close (tie.spec returns)
+out-wrong-spec =
+    tie.close
+    (tie.spec
+    (λ c. search (needs, out-not)))  -- returns

@@ -6,23 +6,11 @@ use Rattle.listings.proofs.inner.work.Tie as tie
 work-requires : tie.Need-work-requires
 work-requires c κs = work-sentence _ _ _ _ _ _ (c .before .before .before .before .before .before .before .before .before .before .pre)
 
-slice-aggregate-links : tie.Need-slice-aggregate-links
-slice-aggregate-links c = search needs
-
 links-requires : tie.Need-links-requires
 links-requires c κs = let w = c .before .before .before .before .before .before in work-links _ _ _ _ _ _ (w .before .before .before .before .before .before .before .before .before .before .before .pre)
 
 count-fill-requires : tie.Need-count-fill-requires
 count-fill-requires c κs = let l = c .before .before .before .before .before in let w = l .before .before .before .before .before .before .before in work-counts _ _ _ _ _ _ (w .before .before .before .before .before .before .before .before .before .before .before .pre) _ _ _ (w .work .ensures) _ _ (l .links .ensures)
-
-same-length : tie.Need-same-length
-same-length c = search needs
-
-same-length-2 : tie.Need-same-length-2
-same-length-2 c = search needs
-
-same-length-3 : tie.Need-same-length-3
-same-length-3 c = search needs
 
 returns : tie.Need-returns
 returns c = let f = c .before .before in let l = f .before .before .before .before .before .before in let w = l .before .before .before .before .before .before .before in work-done _ _ _ _ _ _ (w .before .before .before .before .before .before .before .before .before .before .before .pre) _ _ _ (w .work .ensures) _ _ (l .links .ensures) _ (f .count-fill .ensures)
@@ -32,10 +20,10 @@ work-spec =
     tie.close
     (tie.spec
     work-requires
-    slice-aggregate-links
+    (λ c. search needs)  -- slice-aggregate-links
     links-requires
     count-fill-requires
-    same-length
-    same-length-2
-    same-length-3
+    (λ c. search needs)  -- same-length
+    (λ c. search needs)  -- same-length-2
+    (λ c. search needs)  -- same-length-3
     returns)

@@ -5,47 +5,14 @@ use borrow.Author.Needs.{needs}
 use Rattle.odometer.proofs.inner.show.Statement.{statement}
 use Rattle.odometer.proofs.inner.show.Tie as tie
 
-turn-requires : tie.Need-turn-requires
-turn-requires c κs = search needs
-
-returns : tie.Need-returns
-returns c = search needs
-
-sub-last : tie.Need-sub-last
-sub-last c = search needs
-
-mul-last : tie.Need-mul-last
-mul-last c = search needs
-
-element-copy-out-last : tie.Need-element-copy-out-last
-element-copy-out-last c = search needs
-
-sub-turn : tie.Need-sub-turn
-sub-turn c = search needs
-
 div-turn : tie.Need-div-turn
 div-turn c = let a = c in show-some _ _ _ (a .before .before .pre) (a .before .if1 .left) _ refl
 
 turn-requires-2 : tie.Need-turn-requires-2
 turn-requires-2 c κs = let a = c .before in show-turnable _ _ _ (a .before .before .pre) (a .before .if1 .left)
 
-enum-known-t : tie.Need-enum-known-t
-enum-known-t c = search needs
-
-enum-told : tie.Need-enum-told
-enum-told c = search needs
-
 rem-todo : tie.Need-rem-todo
 rem-todo c = let t = c .before .before in let a = t .before .before in show-some _ _ _ (a .before .before .pre) (a .before .if1 .left) _ refl
-
-sub-todo : tie.Need-sub-todo
-sub-todo c = search needs
-
-mul-todo : tie.Need-mul-todo
-mul-todo c = search needs
-
-element-write-todo : tie.Need-element-write-todo
-element-write-todo c = search needs
 
 returns-2 : tie.Need-returns-2
 returns-2 c = let t = c .before .before in let a = t .before .before in show-at _ _ _ (a .before .before .pre) (a .before .if1 .left) _ refl _ _ _ (t .turn2 .ensures) (c .enum-told .given .1)
@@ -66,20 +33,20 @@ pub show-spec : {M : Type 1} → statement M
 show-spec =
     tie.close
     (tie.spec
-    turn-requires
-    returns
-    sub-last
-    mul-last
-    element-copy-out-last
-    sub-turn
+    (λ c κs. search needs)  -- turn-requires
+    (λ c. search needs)  -- returns
+    (λ c. search needs)  -- sub-last
+    (λ c. search needs)  -- mul-last
+    (λ c. search needs)  -- element-copy-out-last
+    (λ c. search needs)  -- sub-turn
     div-turn
     turn-requires-2
-    enum-known-t
-    enum-told
+    (λ c. search needs)  -- enum-known-t
+    (λ c. search needs)  -- enum-told
     rem-todo
-    sub-todo
-    mul-todo
-    element-write-todo
+    (λ c. search needs)  -- sub-todo
+    (λ c. search needs)  -- mul-todo
+    (λ c. search needs)  -- element-write-todo
     returns-2
     mul-t14
     rem-t21

@@ -16,26 +16,8 @@ Inv-turns bases m k todo₀ left₀ todo left = Turning bases m k todo₀ todo l
 abbrev μ-turns : tie.MeasureT-turns
 μ-turns bases m k todo₀ left₀ todo left = left
 
-turns-holds : tie.Need-turns-holds Inv-loop μ-loop Inv-turns μ-turns
-turns-holds c = turning-start _ _ _ _ (c .pre)
-
-returns : tie.Need-returns Inv-loop μ-loop Inv-turns μ-turns
-returns c = turning-end _ _ _ _ _ _ (c .before .turns .inv) (c .if1 .taken)
-
-sub-left : tie.Need-sub-left Inv-loop μ-loop Inv-turns μ-turns
-sub-left c = search needs
-
-loop-holds : tie.Need-loop-holds Inv-loop μ-loop Inv-turns μ-turns
-loop-holds c = turned-start _ _ _ _ _ _ (c .before .turns .inv) (c .if1 .left)
-
-sub-j : tie.Need-sub-j Inv-loop μ-loop Inv-turns μ-turns
-sub-j c = search needs
-
 mul-d : tie.Need-mul-d Inv-loop μ-loop Inv-turns μ-turns
 mul-d c = let l = c .before .loop in omega (arith, turned-place _ _ _ _ _ _ _ (l .inv) (c .loop-test .left))
-
-element-copy-out-d : tie.Need-element-copy-out-d Inv-loop μ-loop Inv-turns μ-turns
-element-copy-out-d c = turned-place _ _ _ _ _ _ _ (c .before .loop .inv) (c .loop-test .left)
 
 add-if2 : tie.Need-add-if2 Inv-loop μ-loop Inv-turns μ-turns
 add-if2 c = let l = c .before in omega (arith, turned-below _ _ _ _ _ _ _ (l .before .loop .inv) (l .loop-test .left))
@@ -84,13 +66,13 @@ turn-spec =
     μ-loop
     Inv-turns
     μ-turns
-    turns-holds
-    returns
-    sub-left
-    loop-holds
-    sub-j
+    (λ c. turning-start _ _ _ _ (c .pre))  -- turns-holds
+    (λ c. turning-end _ _ _ _ _ _ (c .before .turns .inv) (c .if1 .taken))  -- returns
+    (λ c. search needs)  -- sub-left
+    (λ c. turned-start _ _ _ _ _ _ (c .before .turns .inv) (c .if1 .left))  -- loop-holds
+    (λ c. search needs)  -- sub-j
     mul-d
-    element-copy-out-d
+    (λ c. turned-place _ _ _ _ _ _ _ (c .before .loop .inv) (c .loop-test .left))  -- element-copy-out-d
     add-if2
     mul-if2
     element-copy-out-if2

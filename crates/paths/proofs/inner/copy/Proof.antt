@@ -11,49 +11,19 @@ Inv-loop seen row₀ i₀ row i = Copying seen row₀ row i
 abbrev μ-loop : tie.MeasureT-loop
 μ-loop seen row₀ i₀ row i = length row₀ - i
 
-loop-holds : tie.Need-loop-holds Inv-loop μ-loop
-loop-holds c = search (needs, copy-start)
-
-mul-row : tie.Need-mul-row Inv-loop μ-loop
-mul-row c = search needs
-
-element-copy-out-row : tie.Need-element-copy-out-row Inv-loop μ-loop
-element-copy-out-row c = search needs
-
-mul-row-2 : tie.Need-mul-row-2 Inv-loop μ-loop
-mul-row-2 c = search needs
-
-slice-write-row : tie.Need-slice-write-row Inv-loop μ-loop
-slice-write-row c = search needs
-
-add-i : tie.Need-add-i Inv-loop μ-loop
-add-i c = search needs
-
-loop-less : tie.Need-loop-less Inv-loop μ-loop
-loop-less c = search needs
-
-loop-again : tie.Need-loop-again Inv-loop μ-loop
-loop-again c = search (needs, copy-on)
-
-same-length : tie.Need-same-length Inv-loop μ-loop
-same-length c = search needs
-
-returns : tie.Need-returns Inv-loop μ-loop
-returns c = search (needs, copy-end)
-
 pub copy-spec : {M : Type 1} → statement M
 copy-spec =
     tie.close
     (tie.spec
     Inv-loop
     μ-loop
-    loop-holds
-    mul-row
-    element-copy-out-row
-    mul-row-2
-    slice-write-row
-    add-i
-    loop-less
-    loop-again
-    same-length
-    returns)
+    (λ c. search (needs, copy-start))  -- loop-holds
+    (λ c. search needs)  -- mul-row
+    (λ c. search needs)  -- element-copy-out-row
+    (λ c. search needs)  -- mul-row-2
+    (λ c. search needs)  -- slice-write-row
+    (λ c. search needs)  -- add-i
+    (λ c. search needs)  -- loop-less
+    (λ c. search (needs, copy-on))  -- loop-again
+    (λ c. search needs)  -- same-length
+    (λ c. search (needs, copy-end)))  -- returns

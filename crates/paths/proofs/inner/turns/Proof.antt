@@ -13,12 +13,6 @@ Inv-loop owners starts symbols head next from to list₀ seen₀ r₀ n₀ done�
 abbrev μ-loop : tie.MeasureT-loop
 μ-loop owners starts symbols head next from to list₀ seen₀ r₀ n₀ done₀ list seen r n done = length list - done
 
-loop-holds : tie.Need-loop-holds Inv-loop μ-loop
-loop-holds c = search (needs, turns-start)
-
-rule-requires : tie.Need-rule-requires Inv-loop μ-loop
-rule-requires c κs = c .before .before .loop .inv .ready
-
 is-set-requires : tie.Need-is-set-requires Inv-loop μ-loop
 is-set-requires c κs = let k = c .before .before .before .before in let l = k .before .before .before in turns-in _ _ _ _ _ _ _ _ _ _ _ (l .loop .inv) _ (k .rule .ensures)
 
@@ -40,9 +34,6 @@ mul-wide c = let s = c .before .before in let k = s .before .before .before .bef
 slice-read-wide : tie.Need-slice-read-wide Inv-loop μ-loop
 slice-read-wide c = let s = c .before .before .before in let k = s .before .before .before .before .before in let l = k .before .before .before in turns-place _ _ _ _ _ _ _ _ _ _ _ (l .loop .inv) _ (k .rule .ensures) _ (s .is-set .ensures) (c .before .before .if1 .left) (c .before .if2 .left)
 
-wide-requires : tie.Need-wide-requires Inv-loop μ-loop
-wide-requires c κs = search needs
-
 add-done : tie.Need-add-done Inv-loop μ-loop
 add-done c = let s = c .before .before .before .before in let k = s .before .before .before .before .before in let l = k .before .before .before in omega (arith, k .rule .ensures .kept .short, turns-place _ _ _ _ _ _ _ _ _ _ _ (l .loop .inv) _ (k .rule .ensures) _ (s .is-set .ensures) (c .before .before .before .if1 .left) (c .before .before .if2 .left))
 
@@ -58,8 +49,8 @@ turns-spec =
     (tie.spec
     Inv-loop
     μ-loop
-    loop-holds
-    rule-requires
+    (λ c. search (needs, turns-start))  -- loop-holds
+    (λ c κs. c .before .before .loop .inv .ready)  -- rule-requires
     is-set-requires
     same-length
     returns
@@ -67,7 +58,7 @@ turns-spec =
     returns-2
     mul-wide
     slice-read-wide
-    wide-requires
+    (λ c κs. search needs)  -- wide-requires
     add-done
     loop-less
     loop-again)

@@ -4,9 +4,6 @@ use Rattle.profiles.proofs.Judging.{rule-fits, lower-rows, lower-fits, 
 use Rattle.profiles.proofs.inner.clash.Statement.{statement}
 use Rattle.profiles.proofs.inner.clash.Tie as tie
 
-higher-requires : tie.Need-higher-requires
-higher-requires c κs = lower-rows _ _ _ _ _ (c .before .before .before .before .before .before .before .pre)
-
 shared-requires : tie.Need-shared-requires
 shared-requires c κs = let h = c in (lower-rows _ _ _ _ _ (h .before .before .before .before .before .before .before .before .pre), higher-rows _ _ _ _ _ (h .before .before .before .before .before .before .before .before .pre) _ (h .higher .ensures))
 
@@ -28,4 +25,11 @@ returns c = let s = c .before .before in let h = s .before in clash-is _ _ _ _ _
 pub clash-spec : {M : Type 1} → statement M
 clash-spec =
     tie.close
-    (tie.spec higher-requires shared-requires cast-t12 cast-t14 cast-t16 cast-t18 returns)
+    (tie.spec
+    (λ c κs. lower-rows _ _ _ _ _ (c .before .before .before .before .before .before .before .pre))  -- higher-requires
+    shared-requires
+    cast-t12
+    cast-t14
+    cast-t16
+    cast-t18
+    returns)

@@ -5,7 +5,7 @@ use Rattle.theory.specs.Clashes.{pairOf}
 use Rattle.theory.proofs.Below.{Scanned, scan-found, scan-on, scan-none}
 use Rattle.theory.proofs.Bools.{told}
 use Rattle.grammar.specs.Flat.{flat, denoted}
-use Rattle.firsts.specs.Lent.{lent as firsts}
+use Rattle.engine.specs.First.{lent as firsts}
 use Rattle.profiles.specs.Rows.{marksIn, followIn}
 use Rattle.profiles.proofs.Pairing.{look-start, look-at}
 use Rattle.profiles.proofs.inner.higher.Statement.{statement}
@@ -17,12 +17,6 @@ Inv-loop rules owners starts symbols costs p follow first empty row q₀ q = (p 
 abbrev μ-loop : tie.MeasureT-loop
 μ-loop rules owners starts symbols costs p follow first empty row q₀ q = length owners - q
 
-starts-row-requires : tie.Need-starts-row-requires Inv-loop μ-loop
-starts-row-requires c κs = search needs
-
-add-q : tie.Need-add-q Inv-loop μ-loop
-add-q c = search needs
-
 loop-holds : tie.Need-loop-holds Inv-loop μ-loop
 loop-holds c = (search needs, look-start _ _ _ _ (c .before .before .before .before .before .before .before .before .pre))
 
@@ -32,17 +26,8 @@ pairs-requires c κs = let i = c .before in let l = i .before in let s = l .befo
 returns : tie.Need-returns Inv-loop μ-loop
 returns c = let k = c .before in let i = k .before .before in scan-found _ _ _ (i .before .loop .inv .1) (i .loop-test .taken) (told (k .pairs .ensures) (c .if1 .taken))
 
-add-q-2 : tie.Need-add-q-2 Inv-loop μ-loop
-add-q-2 c = search needs
-
-loop-less : tie.Need-loop-less Inv-loop μ-loop
-loop-less c = search needs
-
 loop-again : tie.Need-loop-again Inv-loop μ-loop
 loop-again c = let k = c .before in let i = k .before .before in (search needs, scan-on _ _ _ (i .before .loop .inv .1) (i .loop-test .taken) (told (k .pairs .ensures) (c .if1 .left)))
-
-returns-2 : tie.Need-returns-2 Inv-loop μ-loop
-returns-2 c = scan-none _ _ _ (c .before .loop .inv .1) (c .loop-test .left)
 
 pub higher-spec : {M : Type 1} → statement M
 higher-spec =
@@ -50,12 +35,12 @@ higher-spec =
     (tie.spec
     Inv-loop
     μ-loop
-    starts-row-requires
-    add-q
+    (λ c κs. search needs)  -- starts-row-requires
+    (λ c. search needs)  -- add-q
     loop-holds
     pairs-requires
     returns
-    add-q-2
-    loop-less
+    (λ c. search needs)  -- add-q-2
+    (λ c. search needs)  -- loop-less
     loop-again
-    returns-2)
+    (λ c. scan-none _ _ _ (c .before .loop .inv .1) (c .loop-test .left)))  -- returns-2

@@ -15,29 +15,11 @@ Inv-loop tokens one other t₀ t = Scanned (λ k. mark rowWords one 0 k && mark 
 abbrev μ-loop : tie.MeasureT-loop
 μ-loop tokens one other t₀ t = tokens - t
 
-loop-holds : tie.Need-loop-holds Inv-loop μ-loop
-loop-holds c = record { below = search needs; none = λ k l. absurd (omega (arith, l)) }
-
-is-set-requires : tie.Need-is-set-requires Inv-loop μ-loop
-is-set-requires c κs = search needs
-
-is-set-requires-2 : tie.Need-is-set-requires-2 Inv-loop μ-loop
-is-set-requires-2 c κs = search needs
-
 returns : tie.Need-returns Inv-loop μ-loop
 returns c = let b = c .before in let a = b .before .before in let i = a .before .before in (search needs, scan-found _ _ _ (i .before .loop .inv) (i .loop-test .taken) (and-told (a .is-set .ensures) (b .is-set2 .ensures) (c .if1 .taken)))
 
-add-t : tie.Need-add-t Inv-loop μ-loop
-add-t c = search needs
-
-loop-less : tie.Need-loop-less Inv-loop μ-loop
-loop-less c = search needs
-
 loop-again : tie.Need-loop-again Inv-loop μ-loop
 loop-again c = let b = c .before in let a = b .before .before in let i = a .before .before in scan-on _ _ _ (i .before .loop .inv) (i .loop-test .taken) (and-told (a .is-set .ensures) (b .is-set2 .ensures) (c .if1 .left))
-
-returns-2 : tie.Need-returns-2 Inv-loop μ-loop
-returns-2 c = (c .before .loop .inv .below, scan-none _ _ _ (c .before .loop .inv) (c .loop-test .left))
 
 pub least-shared-spec : {M : Type 1} → statement M
 least-shared-spec =
@@ -45,11 +27,11 @@ least-shared-spec =
     (tie.spec
     Inv-loop
     μ-loop
-    loop-holds
-    is-set-requires
-    is-set-requires-2
+    (λ c. record { below = search needs; none = λ k l. absurd (omega (arith, l)) })  -- loop-holds
+    (λ c κs. search needs)  -- is-set-requires
+    (λ c κs. search needs)  -- is-set-requires-2
     returns
-    add-t
-    loop-less
+    (λ c. search needs)  -- add-t
+    (λ c. search needs)  -- loop-less
     loop-again
-    returns-2)
+    (λ c. (c .before .loop .inv .below, scan-none _ _ _ (c .before .loop .inv) (c .loop-test .left))))  -- returns-2

@@ -2,7 +2,7 @@ use borrow.Author.Needs.{needs}
 use Prim.Native.Nat.{_≤_}
 use lib.ListN.{length}
 use Rattle.grammar.specs.Flat.{flat}
-use Rattle.firsts.specs.Lent.{lent as firsts}
+use Rattle.engine.specs.First.{lent as firsts}
 use Rattle.profiles.specs.Rows.{Turns}
 use Rattle.profiles.proofs.Turning.{turns-none, turnable, turns-all}
 use Rattle.profiles.proofs.inner.lowest.Statement.{statement}
@@ -14,23 +14,11 @@ Inv-loop rules owners starts symbols costs follow first empty above₀ low₀ p�
 abbrev μ-loop : tie.MeasureT-loop
 μ-loop rules owners starts symbols costs follow first empty above₀ low₀ p₀ above low p = p
 
-wide-requires : tie.Need-wide-requires Inv-loop μ-loop
-wide-requires c κs = search needs
-
 loop-holds : tie.Need-loop-holds Inv-loop μ-loop
 loop-holds c = (search needs, turns-none _ _ _ (c .before .before .before .before .before .before .before .before .pre) _ (c .wide .ensures .0))
 
-sub-p : tie.Need-sub-p Inv-loop μ-loop
-sub-p c = search needs
-
 turn-requires : tie.Need-turn-requires Inv-loop μ-loop
 turn-requires c κs = let i = c .before in let l = i .before in turnable _ _ _ (l .before .before .before .before .before .before .before .before .before .pre) _ _ _ _ _ (l .loop .inv .0) (search needs) (l .loop .inv .1)
-
-loop-less : tie.Need-loop-less Inv-loop μ-loop
-loop-less c = search needs
-
-loop-again : tie.Need-loop-again Inv-loop μ-loop
-loop-again c = (search needs, c .turn .ensures)
 
 returns : tie.Need-returns Inv-loop μ-loop
 returns c = let l = c .before in turns-all _ _ _ (l .before .before .before .before .before .before .before .before .before .pre) _ _ _ _ (c .loop-test .left) (l .loop .inv .1)
@@ -41,10 +29,10 @@ lowest-spec =
     (tie.spec
     Inv-loop
     μ-loop
-    wide-requires
+    (λ c κs. search needs)  -- wide-requires
     loop-holds
-    sub-p
+    (λ c. search needs)  -- sub-p
     turn-requires
-    loop-less
-    loop-again
+    (λ c. search needs)  -- loop-less
+    (λ c. (search needs, c .turn .ensures))  -- loop-again
     returns)

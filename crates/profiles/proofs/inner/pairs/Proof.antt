@@ -3,26 +3,11 @@ use Rattle.profiles.proofs.Pairing.{pair-other, pair-rows, pair-place, 
 use Rattle.profiles.proofs.inner.pairs.Statement.{statement}
 use Rattle.profiles.proofs.inner.pairs.Tie as tie
 
-mul-if1 : tie.Need-mul-if1
-mul-if1 c = search needs
-
-shared-slice-read-if1 : tie.Need-shared-slice-read-if1
-shared-slice-read-if1 c = search needs
-
-mul-if1-2 : tie.Need-mul-if1-2
-mul-if1-2 c = search needs
-
-shared-slice-read-if1-2 : tie.Need-shared-slice-read-if1-2
-shared-slice-read-if1-2 c = search needs
-
 returns : tie.Need-returns
 returns c = pair-other _ _ _ _ _ _ (c .before .before .before .before .before .before .before .before .before .before .pre) (c .if1 .taken)
 
 starts-row-requires : tie.Need-starts-row-requires
 starts-row-requires c κs = pair-rows _ _ _ _ _ _ (c .before .before .before .before .before .before .before .before .before .before .pre)
-
-slice-aggregate-meets : tie.Need-slice-aggregate-meets
-slice-aggregate-meets c = search needs
 
 meets-requires : tie.Need-meets-requires
 meets-requires c κs = let r = c .before .before in let l = r .before in pair-place _ _ _ _ _ _ (l .before .before .before .before .before .before .before .before .before .before .pre) _ (r .starts-row .ensures)
@@ -34,12 +19,12 @@ pub pairs-spec : {M : Type 1} → statement M
 pairs-spec =
     tie.close
     (tie.spec
-    mul-if1
-    shared-slice-read-if1
-    mul-if1-2
-    shared-slice-read-if1-2
+    (λ c. search needs)  -- mul-if1
+    (λ c. search needs)  -- shared-slice-read-if1
+    (λ c. search needs)  -- mul-if1-2
+    (λ c. search needs)  -- shared-slice-read-if1-2
     returns
     starts-row-requires
-    slice-aggregate-meets
+    (λ c. search needs)  -- slice-aggregate-meets
     meets-requires
     returns-2)

@@ -3,12 +3,6 @@ use Rattle.profiles.proofs.Pairing.{shared-least}
 use Rattle.profiles.proofs.inner.shared.Statement.{statement}
 use Rattle.profiles.proofs.inner.shared.Tie as tie
 
-starts-row-requires : tie.Need-starts-row-requires
-starts-row-requires c κs = search needs
-
-starts-row-requires-2 : tie.Need-starts-row-requires-2
-starts-row-requires-2 c κs = search needs
-
 least-shared-requires : tie.Need-least-shared-requires
 least-shared-requires c κs = let z = c .before .before in let s = z .before in s .before .before .before .before .before .before .before .before .pre .0 .reads .well .sizes .tokens-high
 
@@ -17,4 +11,9 @@ returns c = let z = c .before .before .before in let s = z .before in shared-lea
 
 pub shared-spec : {M : Type 1} → statement M
 shared-spec =
-    tie.close (tie.spec starts-row-requires starts-row-requires-2 least-shared-requires returns)
+    tie.close
+    (tie.spec
+    (λ c κs. search needs)  -- starts-row-requires
+    (λ c κs. search needs)  -- starts-row-requires-2
+    least-shared-requires
+    returns)

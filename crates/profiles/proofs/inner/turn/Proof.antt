@@ -3,23 +3,8 @@ use Rattle.profiles.proofs.Turning.{meet-place, join-place, turns-this,
 use Rattle.profiles.proofs.inner.turn.Statement.{statement}
 use Rattle.profiles.proofs.inner.turn.Tie as tie
 
-start-at-requires : tie.Need-start-at-requires
-start-at-requires c κs = search needs
-
-starts-row-requires : tie.Need-starts-row-requires
-starts-row-requires c κs = search needs
-
-slice-aggregate-meets : tie.Need-slice-aggregate-meets
-slice-aggregate-meets c = search needs
-
 meets-requires : tie.Need-meets-requires
 meets-requires c κs = let r = c .before .before .before in let s = r .before in meet-place _ _ _ _ _ _ _ (s .before .before .before .before .before .before .before .before .pre) _ (s .start-at .ensures .0) _ (r .starts-row .ensures)
-
-add-join-from : tie.Need-add-join-from
-add-join-from c = search needs
-
-slice-aggregate-join-from : tie.Need-slice-aggregate-join-from
-slice-aggregate-join-from c = search needs
 
 join-from-requires : tie.Need-join-from-requires
 join-from-requires c κs = let h = c .before .before in let r = h .before .before .before .before in let s = r .before in join-place _ _ _ _ _ _ _ (s .before .before .before .before .before .before .before .before .pre) _ (s .start-at .ensures .0) _ (r .starts-row .ensures)
@@ -34,12 +19,12 @@ pub turn-spec : {M : Type 1} → statement M
 turn-spec =
     tie.close
     (tie.spec
-    start-at-requires
-    starts-row-requires
-    slice-aggregate-meets
+    (λ c κs. search needs)  -- start-at-requires
+    (λ c κs. search needs)  -- starts-row-requires
+    (λ c. search needs)  -- slice-aggregate-meets
     meets-requires
-    add-join-from
-    slice-aggregate-join-from
+    (λ c. search needs)  -- add-join-from
+    (λ c. search needs)  -- slice-aggregate-join-from
     join-from-requires
     returns
     returns-2)

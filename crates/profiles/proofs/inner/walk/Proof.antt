@@ -2,8 +2,8 @@ use borrow.Author.Needs.{needs}
 use mathlib.Core.Path.{_≡_, refl}
 use Prim.Native.Nat.{_-_}
 use Rattle.tables.specs.Sizes.{words}
-use Rattle.firsts.specs.Lent.{lent as firsts}
-use Rattle.firsts.proofs.Walking.{walk-end, token-place, walk-token, first-place, empty-place, walk-on, walk-stop, joined-from}
+use Rattle.engine.specs.First.{lent as firsts}
+use Rattle.engine.proofs.FirstWalking.{walk-end, token-place, walk-token, first-place, empty-place, walk-on, walk-stop, joined-from}
 use Rattle.profiles.proofs.Walking.{Going, going-start}
 use Rattle.profiles.proofs.inner.walk.Statement.{statement}
 use Rattle.profiles.proofs.inner.walk.Tie as tie
@@ -14,32 +14,14 @@ Inv-loop rules tokens symbols a e first empty row₀ width line i₀ row i = (wi
 abbrev μ-loop : tie.MeasureT-loop
 μ-loop rules tokens symbols a e first empty row₀ width line i₀ row i = e - i
 
-words-for-requires : tie.Need-words-for-requires Inv-loop μ-loop
-words-for-requires c κs = search needs
-
-words-for-requires-2 : tie.Need-words-for-requires-2 Inv-loop μ-loop
-words-for-requires-2 c κs = search needs
-
 loop-holds : tie.Need-loop-holds Inv-loop μ-loop
 loop-holds c = let p = c .before .before .before .before .before .pre in (c .before .words-for .ensures, (c .words-for2 .ensures, going-start _ _ _ _ _ _ _ p))
-
-mul-s : tie.Need-mul-s Inv-loop μ-loop
-mul-s c = search needs
-
-shared-slice-read-s : tie.Need-shared-slice-read-s Inv-loop μ-loop
-shared-slice-read-s c = search needs
-
-wide-requires : tie.Need-wide-requires Inv-loop μ-loop
-wide-requires c κs = search needs
 
 set-requires : tie.Need-set-requires Inv-loop μ-loop
 set-requires c κs = let t = c .before .before in let i = t .before .before in let l = i .before in token-place _ _ _ _ _ _ _ (l .before .before .before .before .before .before .pre .forth) _ _ _ _ (l .loop .inv .1 .1 .at) _ refl (i .loop-test .taken) (t .if1 .taken) _ _ (l .loop .inv .0) (c .wide .ensures .0)
 
 returns : tie.Need-returns Inv-loop μ-loop
 returns c = let w = c .before in let t = w .before .before in let i = t .before .before in let l = i .before in record { new = _; walks = walk-token _ _ _ _ _ _ _ (l .before .before .before .before .before .before .pre .forth) _ _ _ _ (l .loop .inv .1 .1 .at) _ refl (i .loop-test .taken) (t .if1 .taken) _ _ _ _ (l .loop .inv .0) (w .wide .ensures .0) (c .set .ensures .0) (c .set .ensures .1) }
-
-wide-requires-2 : tie.Need-wide-requires-2 Inv-loop μ-loop
-wide-requires-2 c κs = search needs
 
 join-from-requires : tie.Need-join-from-requires Inv-loop μ-loop
 join-from-requires c κs = let w = c .before in let t = w .before in let i = t .before .before in let l = i .before in first-place _ _ _ _ _ _ _ (l .before .before .before .before .before .before .pre .forth) _ _ _ _ (l .loop .inv .1 .1 .at) _ refl (i .loop-test .taken) (t .if1 .left) _ _ (l .loop .inv .0) (w .wide2 .ensures .0)
@@ -49,12 +31,6 @@ is-set-requires c κs = let w = c .before .before in let t = w .before in let i 
 
 returns-2 : tie.Need-returns-2 Inv-loop μ-loop
 returns-2 c = let m = c .before in let j = m .before in let w = j .before .before in let t = w .before in let i = t .before .before in let l = i .before in let p = l .before .before .before .before .before .before .pre .forth in record { new = _; walks = walk-stop _ _ _ _ _ _ _ p _ _ _ _ (l .loop .inv .1 .1 .at) _ refl (i .loop-test .taken) (t .if1 .left) _ _ _ _ _ _ (l .loop .inv .0) (l .loop .inv .1 .0) (w .wide2 .ensures .0) (joined-from _ _ _ _ _ _ _ p _ _ _ _ (l .loop .inv .1 .1 .at) _ _ _ _ (l .loop .inv .0) (j .join-from .ensures)) (m .is-set .ensures) (c .if2 .taken) }
-
-add-i : tie.Need-add-i Inv-loop μ-loop
-add-i c = search needs
-
-loop-less : tie.Need-loop-less Inv-loop μ-loop
-loop-less c = search needs
 
 loop-again : tie.Need-loop-again Inv-loop μ-loop
 loop-again c = let m = c .before in let j = m .before in let w = j .before .before in let t = w .before in let i = t .before .before in let l = i .before in let p = l .before .before .before .before .before .before .pre .forth in (l .loop .inv .0, (l .loop .inv .1 .0, record { new = _; at = walk-on _ _ _ _ _ _ _ p _ _ _ _ (l .loop .inv .1 .1 .at) _ refl (i .loop-test .taken) (t .if1 .left) _ _ _ _ _ _ (l .loop .inv .0) (l .loop .inv .1 .0) (w .wide2 .ensures .0) (joined-from _ _ _ _ _ _ _ p _ _ _ _ (l .loop .inv .1 .1 .at) _ _ _ _ (l .loop .inv .0) (j .join-from .ensures)) (m .is-set .ensures) (c .if2 .left) }))
@@ -68,19 +44,19 @@ walk-spec =
     (tie.spec
     Inv-loop
     μ-loop
-    words-for-requires
-    words-for-requires-2
+    (λ c κs. search needs)  -- words-for-requires
+    (λ c κs. search needs)  -- words-for-requires-2
     loop-holds
-    mul-s
-    shared-slice-read-s
-    wide-requires
+    (λ c. search needs)  -- mul-s
+    (λ c. search needs)  -- shared-slice-read-s
+    (λ c κs. search needs)  -- wide-requires
     set-requires
     returns
-    wide-requires-2
+    (λ c κs. search needs)  -- wide-requires-2
     join-from-requires
     is-set-requires
     returns-2
-    add-i
-    loop-less
+    (λ c. search needs)  -- add-i
+    (λ c. search needs)  -- loop-less
     loop-again
     returns-3)

@@ -1,60 +1,26 @@
--- The words below k are joined, one after another.
+-- The words of the run below k are joined.
 use mathlib.Core.Path.{_≡_, refl}
-use Prim.Native.Nat.{_-_, _≤_}
+use Prim.Native.Nat.{_+_, _-_, _*_, _≤_}
+use native.Mathlib.Omega.{arith}
 use lib.ListN.{length}
 use borrow.Author.Needs.{needs}
-use Rattle.rows.specs.Marks.{JoinedRun, none, onto}
-use Rattle.rows.proofs.Runs.{run-end}
+use Rattle.rows.specs.Marks.{Joins}
+use Rattle.rows.proofs.Join.{join-as}
+use Rattle.rows.proofs.Runs.{run-more}
 use Rattle.rows.proofs.inner.join_run.Statement.{statement}
 use Rattle.rows.proofs.inner.join_run.Tie as tie
 
 abbrev Inv-loop : tie.InvT-loop
-Inv-loop table₀ at new₀ words k₀ table new k = (k ≤ 8) × (length table ≡ length table₀) × JoinedRun words at table₀ new₀ k table new
+Inv-loop table₀ width tokens from to i new words b all₀ k₀ table all k = (k ≤ 8) × (length table ≡ length table₀) × Joins tokens width from to (i * 8 * 32) new table₀ ((i * 8 + k) * 32) all table
 
 abbrev μ-loop : tie.MeasureT-loop
-μ-loop table₀ at new₀ words k₀ table new k = 8 - k
-
-loop-holds : tie.Need-loop-holds Inv-loop μ-loop
-loop-holds c = (search needs, refl, none)
-
-mul-new : tie.Need-mul-new Inv-loop μ-loop
-mul-new c = search needs
-
-element-copy-out-new : tie.Need-element-copy-out-new Inv-loop μ-loop
-element-copy-out-new c = search needs
-
-add-join-word : tie.Need-add-join-word Inv-loop μ-loop
-add-join-word c = search needs
-
-mul-join-word : tie.Need-mul-join-word Inv-loop μ-loop
-mul-join-word c = search needs
-
-array-read-join-word : tie.Need-array-read-join-word Inv-loop μ-loop
-array-read-join-word c = search needs
-
-join-word-requires : tie.Need-join-word-requires Inv-loop μ-loop
-join-word-requires c κs = search needs
-
-mul-new-2 : tie.Need-mul-new-2 Inv-loop μ-loop
-mul-new-2 c = search needs
-
-element-write-new : tie.Need-element-write-new Inv-loop μ-loop
-element-write-new c = search needs
-
-add-k : tie.Need-add-k Inv-loop μ-loop
-add-k c = search needs
-
-loop-less : tie.Need-loop-less Inv-loop μ-loop
-loop-less c = search needs
+μ-loop table₀ width tokens from to i new words b all₀ k₀ table all k = 8 - k
 
 loop-again : tie.Need-loop-again Inv-loop μ-loop
-loop-again c = let w = c .before .before in (search needs, search needs, onto (w .before .before .before .before .loop .inv .2) (w .join-word .ensures))
-
-same-length : tie.Need-same-length Inv-loop μ-loop
-same-length c = search needs
+loop-again c = let w = c .before .before in let n = w .before .before in let l = n .before in let r = l .before in let u = r .before .before in let s = u .before in (search needs, search needs, run-more _ _ _ _ _ _ (s .pre .0 .fits) (s .pre .1) (r .run-at .result) (r .run-at .ensures) (λ k. u .slice-known .given k .fits) _ (s .args .new) (l .loop .all) _ _ _ (omega (arith, s .pre .0 .to, l .loop .inv .1)) (n .loop-test .taken) (l .loop .inv .2) (w .join-word .ensures))
 
 returns : tie.Need-returns Inv-loop μ-loop
-returns c = let l = c .before in run-end (l .loop .inv .2) (l .loop .inv .0) (search needs)
+returns c = let l = c .before in λ ws j. join-as (omega arith) (l .loop .inv .2 ws j)
 
 pub join-run-spec : {M : Type 1} → statement M
 join-run-spec =
@@ -62,17 +28,20 @@ join-run-spec =
     (tie.spec
     Inv-loop
     μ-loop
-    loop-holds
-    mul-new
-    element-copy-out-new
-    add-join-word
-    mul-join-word
-    array-read-join-word
-    join-word-requires
-    mul-new-2
-    element-write-new
-    add-k
-    loop-less
+    (λ c. search needs)  -- mul-run-at
+    (λ c. search needs)  -- mul-run-at-2
+    (λ c. search needs)  -- add-run-at
+    (λ c κs. search needs)  -- run-at-requires
+    (λ c. search needs)  -- mul-b
+    (λ c. search needs)  -- mul-b-2
+    (λ c. search needs)  -- add-b
+    (λ c. (search needs, refl, λ ws j. join-as (omega arith) j))  -- loop-holds
+    (λ c. search needs)  -- add-join-word
+    (λ c. search needs)  -- mul-join-word
+    (λ c. search needs)  -- array-read-join-word
+    (λ c κs. search needs)  -- join-word-requires
+    (λ c. search needs)  -- add-k
+    (λ c. search needs)  -- loop-less
     loop-again
-    same-length
+    (λ c. search needs)  -- same-length
     returns)

@@ -15,30 +15,6 @@ Inv-loop table at words₀ k₀ words k = (k ≤ 8) × (length words ≡ 8) × C
 abbrev μ-loop : tie.MeasureT-loop
 μ-loop table at words₀ k₀ words k = 8 - k
 
-loop-holds : tie.Need-loop-holds Inv-loop μ-loop
-loop-holds c = (search needs, search needs, λ j l. absurd (omega arith))
-
-add-words : tie.Need-add-words Inv-loop μ-loop
-add-words c = search needs
-
-mul-words : tie.Need-mul-words Inv-loop μ-loop
-mul-words c = search needs
-
-shared-slice-read-words : tie.Need-shared-slice-read-words Inv-loop μ-loop
-shared-slice-read-words c = search needs
-
-mul-words-2 : tie.Need-mul-words-2 Inv-loop μ-loop
-mul-words-2 c = search needs
-
-array-write-words : tie.Need-array-write-words Inv-loop μ-loop
-array-write-words c = search needs
-
-add-k : tie.Need-add-k Inv-loop μ-loop
-add-k c = search needs
-
-loop-less : tie.Need-loop-less Inv-loop μ-loop
-loop-less c = search needs
-
 loop-again : tie.Need-loop-again Inv-loop μ-loop
 loop-again c = let n = c .before .before in let s = n .before .args in let l = n .loop in (search needs, search needs, copied-more (s .table .now) (l .words) (s .at) (l .k) (omega arith) (l .inv .2))
 
@@ -51,13 +27,13 @@ run-at-spec =
     (tie.spec
     Inv-loop
     μ-loop
-    loop-holds
-    add-words
-    mul-words
-    shared-slice-read-words
-    mul-words-2
-    array-write-words
-    add-k
-    loop-less
+    (λ c. (search needs, search needs, λ j l. absurd (omega arith)))  -- loop-holds
+    (λ c. search needs)  -- add-words
+    (λ c. search needs)  -- mul-words
+    (λ c. search needs)  -- shared-slice-read-words
+    (λ c. search needs)  -- mul-words-2
+    (λ c. search needs)  -- array-write-words
+    (λ c. search needs)  -- add-k
+    (λ c. search needs)  -- loop-less
     loop-again
     returns)

@@ -13,7 +13,7 @@ use Rattle.listings.proofs.inner.counts.+count_production+count_rule.Lt
 use Rattle.listings.proofs.inner.counts.count_rule.Reads as count-rule
 use Rattle.listings.proofs.inner.counts.count_rule.Kinds as count-rule-kinds
 use Rattle.listings.proofs.inner.counts.+count_production+count_rule.Lts-count_rule as count-rule-lts
-use Rattle.costs.proofs.inner.entry_at.Reads as entry-at-reads
+use Rattle.engine.proofs.inner.cost.entry_at.Reads as entry-at-reads
 use Rattle.grammar.proofs.inner.start_at.Reads as start-at-reads
 use Rattle.grammar.proofs.inner.wide.Reads as wide-reads
 use Rattle.listings.proofs.inner.counts.times.Reads as times-reads
@@ -67,26 +67,8 @@ abbrev count-production-μ-loop : count-production-lts.MeasureT-loop
 count-production-μ-loop rules owners starts symbols costs next cost choice levels a e counts₀ shallow₀ n₀ i₀ counts shallow n i =
     e - i
 
-count-production-loop-holds : (t : ℕ) → count-production-lts.Need-loop-holds (count-production-calls t) (count-production-at t) count-production.Post count-production-Inv-loop count-production-μ-loop
-count-production-loop-holds t c = producing-start _ _ _ _ _ _ _ _ _ (c .before .before .before .before .before .before .pre .1)
-
-count-production-mul-s : (t : ℕ) → count-production-lts.Need-mul-s (count-production-calls t) (count-production-at t) count-production.Post count-production-Inv-loop count-production-μ-loop
-count-production-mul-s t c = search needs
-
-count-production-shared-slice-read-s : (t : ℕ) → count-production-lts.Need-shared-slice-read-s (count-production-calls t) (count-production-at t) count-production.Post count-production-Inv-loop count-production-μ-loop
-count-production-shared-slice-read-s t c = search needs
-
-count-production-add-i : (t : ℕ) → count-production-lts.Need-add-i (count-production-calls t) (count-production-at t) count-production.Post count-production-Inv-loop count-production-μ-loop
-count-production-add-i t c = search needs
-
-count-production-loop-less : (t : ℕ) → count-production-lts.Need-loop-less (count-production-calls t) (count-production-at t) count-production.Post count-production-Inv-loop count-production-μ-loop
-count-production-loop-less t c = search needs
-
 count-production-loop-again : (t : ℕ) → count-production-lts.Need-loop-again (count-production-calls t) (count-production-at t) count-production.Post count-production-Inv-loop count-production-μ-loop
 count-production-loop-again t c = let i = c .before .before in let l = i .before in producing-token _ _ _ _ _ _ _ _ _ (l .before .before .before .before .before .before .before .pre .1) _ _ _ _ (l .loop .inv) (i .loop-test .taken) _ refl (c .if1 .taken)
-
-count-production-wide-requires : (t : ℕ) → count-production-lts.Need-wide-requires (count-production-calls t) (count-production-at t) count-production.Post count-production-Inv-loop count-production-μ-loop
-count-production-wide-requires t c κs = search needs
 
 count-production-count-rule-requires : (t : ℕ) → count-production-lts.Need-count-rule-requires (count-production-calls t) (count-production-at t) count-production.Post count-production-Inv-loop count-production-μ-loop
 count-production-count-rule-requires t c κs = let x = c .before .before in let i = x .before .before .before in let l = i .before in (omega (arith, l .before .before .before .before .before .before .before .pre .0), producing-rule _ _ _ _ _ _ _ _ _ (l .before .before .before .before .before .before .before .pre .1) _ _ _ _ (l .loop .inv) (i .loop-test .taken) _ refl (x .before .if1 .left) _ (x .wide .ensures .0))
@@ -99,9 +81,6 @@ count-production-returns t c = let y = c .before .before .before in let x = y .b
 
 count-production-times-requires : (t : ℕ) → count-production-lts.Need-times-requires (count-production-calls t) (count-production-at t) count-production.Post count-production-Inv-loop count-production-μ-loop
 count-production-times-requires t c κs = let y = c .before .before .before in let x = y .before .before .before in let i = x .before .before .before in let l = i .before in producing-caps _ _ _ _ _ _ _ _ _ (l .before .before .before .before .before .before .before .pre .1) _ _ _ _ (l .loop .inv) (i .loop-test .taken) _ refl (x .before .if1 .left) _ (x .wide .ensures .0) _ _ _ (y .count-rule .ensures) (c .if2 .left)
-
-count-production-loop-less-2 : (t : ℕ) → count-production-lts.Need-loop-less-2 (count-production-calls t) (count-production-at t) count-production.Post count-production-Inv-loop count-production-μ-loop
-count-production-loop-less-2 t c = search needs
 
 count-production-loop-again-2 : (t : ℕ) → count-production-lts.Need-loop-again-2 (count-production-calls t) (count-production-at t) count-production.Post count-production-Inv-loop count-production-μ-loop
 count-production-loop-again-2 t c = let z = c .before in let y = z .before .before .before in let x = y .before .before .before in let i = x .before .before .before in let l = i .before in producing-on _ _ _ _ _ _ _ _ _ (l .before .before .before .before .before .before .before .pre .1) _ _ _ _ (l .loop .inv) (i .loop-test .taken) _ refl (x .before .if1 .left) _ (x .wide .ensures .0) _ _ _ (y .count-rule .ensures) (z .if2 .left) _ (c .times .ensures)
@@ -120,12 +99,6 @@ abbrev count-rule-μ-loop : count-rule-lts.MeasureT-loop
 count-rule-μ-loop rules owners starts symbols costs next cost choice levels r counts₀ shallow₀ known p₀ total₀ counts shallow p total =
     length owners - p
 
-count-rule-entry-at-requires : (t : ℕ) → count-rule-lts.Need-entry-at-requires (count-rule-calls t) (count-rule-at t) count-rule.Post count-rule-Inv-loop count-rule-μ-loop
-count-rule-entry-at-requires t c κs = rule-entry _ _ _ _ _ _ _ _ (c .before .before .before .before .before .before .before .pre .1)
-
-count-rule-same-length : (t : ℕ) → count-rule-lts.Need-same-length (count-rule-calls t) (count-rule-at t) count-rule.Post count-rule-Inv-loop count-rule-μ-loop
-count-rule-same-length t c = search needs
-
 count-rule-returns : (t : ℕ) → count-rule-lts.Need-returns (count-rule-calls t) (count-rule-at t) count-rule.Post count-rule-Inv-loop count-rule-μ-loop
 count-rule-returns t c = let n = c .before in rule-known _ _ _ _ _ _ _ _ (n .before .before .before .before .before .before .before .before .pre .1) _ (n .entry-at .ensures) (c .if1 .taken)
 
@@ -135,20 +108,11 @@ count-rule-mul-wide t c = let n = c .before in omega (arith, rule-place _ _ _ _ 
 count-rule-element-copy-out-wide : (t : ℕ) → count-rule-lts.Need-element-copy-out-wide (count-rule-calls t) (count-rule-at t) count-rule.Post count-rule-Inv-loop count-rule-μ-loop
 count-rule-element-copy-out-wide t c = let n = c .before in rule-place _ _ _ _ _ _ _ _ (n .before .before .before .before .before .before .before .before .pre .1)
 
-count-rule-wide-requires : (t : ℕ) → count-rule-lts.Need-wide-requires (count-rule-calls t) (count-rule-at t) count-rule.Post count-rule-Inv-loop count-rule-μ-loop
-count-rule-wide-requires t c κs = search needs
-
 count-rule-mul-wide-2 : (t : ℕ) → count-rule-lts.Need-mul-wide-2 (count-rule-calls t) (count-rule-at t) count-rule.Post count-rule-Inv-loop count-rule-μ-loop
 count-rule-mul-wide-2 t c = let n = c .before .before .before in omega (arith, rule-place _ _ _ _ _ _ _ _ (n .before .before .before .before .before .before .before .before .pre .1))
 
 count-rule-element-copy-out-wide-2 : (t : ℕ) → count-rule-lts.Need-element-copy-out-wide-2 (count-rule-calls t) (count-rule-at t) count-rule.Post count-rule-Inv-loop count-rule-μ-loop
 count-rule-element-copy-out-wide-2 t c = let n = c .before .before .before in rule-place _ _ _ _ _ _ _ _ (n .before .before .before .before .before .before .before .before .pre .1)
-
-count-rule-wide-requires-2 : (t : ℕ) → count-rule-lts.Need-wide-requires-2 (count-rule-calls t) (count-rule-at t) count-rule.Post count-rule-Inv-loop count-rule-μ-loop
-count-rule-wide-requires-2 t c κs = search needs
-
-count-rule-same-length-2 : (t : ℕ) → count-rule-lts.Need-same-length-2 (count-rule-calls t) (count-rule-at t) count-rule.Post count-rule-Inv-loop count-rule-μ-loop
-count-rule-same-length-2 t c = search needs
 
 count-rule-returns-2 : (t : ℕ) → count-rule-lts.Need-returns-2 (count-rule-calls t) (count-rule-at t) count-rule.Post count-rule-Inv-loop count-rule-μ-loop
 count-rule-returns-2 t c = let w2 = c .before in let w = w2 .before .before in let u = w .before .before in let n = u .before in rule-none _ _ _ _ _ _ _ _ (n .before .before .before .before .before .before .before .before .pre .1) _ (n .entry-at .ensures) (u .if1 .left) _ (w .wide .ensures .0) _ (w2 .wide2 .ensures .0) (c .if2 .taken)
@@ -161,9 +125,6 @@ count-rule-sub-count-production t c = let l = c .before in let f = l .before in 
 
 count-rule-start-at-requires : (t : ℕ) → count-rule-lts.Need-start-at-requires (count-rule-calls t) (count-rule-at t) count-rule.Post count-rule-Inv-loop count-rule-μ-loop
 count-rule-start-at-requires t c κs = let l = c .before in let f = l .before in let w2 = f .before in let w = w2 .before .before in let u = w .before .before in let n = u .before in ruling-start-at _ _ _ _ _ _ _ _ (n .before .before .before .before .before .before .before .before .pre .1) _ (n .entry-at .ensures) (u .if1 .left) _ (w .wide .ensures .0) _ (w2 .wide2 .ensures .0) (f .if2 .left) _ _ _ _ (l .loop .inv) (c .loop-test .taken)
-
-count-rule-add-start-at : (t : ℕ) → count-rule-lts.Need-add-start-at (count-rule-calls t) (count-rule-at t) count-rule.Post count-rule-Inv-loop count-rule-μ-loop
-count-rule-add-start-at t c = search needs
 
 count-rule-start-at-requires-2 : (t : ℕ) → count-rule-lts.Need-start-at-requires-2 (count-rule-calls t) (count-rule-at t) count-rule.Post count-rule-Inv-loop count-rule-μ-loop
 count-rule-start-at-requires-2 t c κs = let i = c .before in let l = i .before in let f = l .before in let w2 = f .before in let w = w2 .before .before in let u = w .before .before in let n = u .before in ruling-next-at _ _ _ _ _ _ _ _ (n .before .before .before .before .before .before .before .before .pre .1) _ (n .entry-at .ensures) (u .if1 .left) _ (w .wide .ensures .0) _ (w2 .wide2 .ensures .0) (f .if2 .left) _ _ _ _ (l .loop .inv) (i .loop-test .taken)
@@ -195,9 +156,6 @@ count-rule-mul-wide-3 t c = let a = c in let v = a .before in let k = v .before 
 count-rule-element-copy-out-wide-3 : (t : ℕ) → count-rule-lts.Need-element-copy-out-wide-3 (count-rule-calls t) (count-rule-at t) count-rule.Post count-rule-Inv-loop count-rule-μ-loop
 count-rule-element-copy-out-wide-3 t c = let a = c in let v = a .before in let k = v .before .before .before in let s = k .before .before .before in let q = s .before in let i = q .before in let l = i .before in let f = l .before in let w2 = f .before in let w = w2 .before .before in let u = w .before .before in let n = u .before in ruling-place _ _ _ _ _ _ _ _ (n .before .before .before .before .before .before .before .before .pre .1) _ (n .entry-at .ensures) (u .if1 .left) _ (w .wide .ensures .0) _ (w2 .wide2 .ensures .0) (f .if2 .left) _ _ _ _ (l .loop .inv) (i .loop-test .taken)
 
-count-rule-wide-requires-3 : (t : ℕ) → count-rule-lts.Need-wide-requires-3 (count-rule-calls t) (count-rule-at t) count-rule.Post count-rule-Inv-loop count-rule-μ-loop
-count-rule-wide-requires-3 t c κs = search needs
-
 count-rule-cheapest-from-requires : (t : ℕ) → count-rule-lts.Need-cheapest-from-requires (count-rule-calls t) (count-rule-at t) count-rule.Post count-rule-Inv-loop count-rule-μ-loop
 count-rule-cheapest-from-requires t c κs = let d = c in let a = d .before .before in let v = a .before in let k = v .before .before .before in let s = k .before .before .before in let q = s .before in let i = q .before in let l = i .before in let f = l .before in let w2 = f .before in let w = w2 .before .before in let u = w .before .before in let n = u .before in ruling-from _ _ _ _ _ _ _ _ (n .before .before .before .before .before .before .before .before .pre .1) _ (n .entry-at .ensures) (u .if1 .left) _ (w .wide .ensures .0) _ (w2 .wide2 .ensures .0) (f .if2 .left) _ _ _ _ (l .loop .inv) (i .loop-test .taken) _ _ (q .start-at .ensures .0) (s .start-at2 .ensures .0) _ _ _ (k .count-production .ensures) (v .if3 .left) _ (d .wide3 .ensures .0)
 
@@ -225,18 +183,18 @@ pub +count-production+count-rule-spec : {M : Type 1} → statement M
     count-production.Post
     count-production-Inv-loop
     count-production-μ-loop
-    (count-production-loop-holds t)
-    (count-production-mul-s t)
-    (count-production-shared-slice-read-s t)
-    (count-production-add-i t)
-    (count-production-loop-less t)
+    (λ c. producing-start _ _ _ _ _ _ _ _ _ (c .before .before .before .before .before .before .pre .1))  -- count-production-loop-holds
+    (λ c. search needs)  -- count-production-mul-s
+    (λ c. search needs)  -- count-production-shared-slice-read-s
+    (λ c. search needs)  -- count-production-add-i
+    (λ c. search needs)  -- count-production-loop-less
     (count-production-loop-again t)
-    (count-production-wide-requires t)
+    (λ c κs. search needs)  -- count-production-wide-requires
     (count-production-count-rule-requires t)
     (count-production-same-length t)
     (count-production-returns t)
     (count-production-times-requires t)
-    (count-production-loop-less-2 t)
+    (λ c. search needs)  -- count-production-loop-less-2
     (count-production-loop-again-2 t)
     (count-production-same-length-2 t)
     (count-production-returns-2 t))
@@ -244,21 +202,21 @@ pub +count-production+count-rule-spec : {M : Type 1} → statement M
     count-rule.Post
     count-rule-Inv-loop
     count-rule-μ-loop
-    (count-rule-entry-at-requires t)
-    (count-rule-same-length t)
+    (λ c κs. rule-entry _ _ _ _ _ _ _ _ (c .before .before .before .before .before .before .before .pre .1))  -- count-rule-entry-at-requires
+    (λ c. search needs)  -- count-rule-same-length
     (count-rule-returns t)
     (count-rule-mul-wide t)
     (count-rule-element-copy-out-wide t)
-    (count-rule-wide-requires t)
+    (λ c κs. search needs)  -- count-rule-wide-requires
     (count-rule-mul-wide-2 t)
     (count-rule-element-copy-out-wide-2 t)
-    (count-rule-wide-requires-2 t)
-    (count-rule-same-length-2 t)
+    (λ c κs. search needs)  -- count-rule-wide-requires-2
+    (λ c. search needs)  -- count-rule-same-length-2
     (count-rule-returns-2 t)
     (count-rule-loop-holds t)
     (count-rule-sub-count-production t)
     (count-rule-start-at-requires t)
-    (count-rule-add-start-at t)
+    (λ c. search needs)  -- count-rule-add-start-at
     (count-rule-start-at-requires-2 t)
     (count-rule-count-production-requires t)
     (count-rule-cast-shallow t)
@@ -269,7 +227,7 @@ pub +count-production+count-rule-spec : {M : Type 1} → statement M
     (count-rule-add-requires t)
     (count-rule-mul-wide-3 t)
     (count-rule-element-copy-out-wide-3 t)
-    (count-rule-wide-requires-3 t)
+    (λ c κs. search needs)  -- count-rule-wide-requires-3
     (count-rule-cheapest-from-requires t)
     (count-rule-loop-less t)
     (count-rule-loop-again t)

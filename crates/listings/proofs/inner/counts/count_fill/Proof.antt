@@ -14,23 +14,11 @@ abbrev μ-loop : tie.MeasureT-loop
 μ-loop rules owners starts symbols costs next cost choice counts₀ n shallow₀ r₀ counts shallow r =
     n - r
 
-clear-requires : tie.Need-clear-requires Inv-loop μ-loop
-clear-requires c κs = search needs
-
-wide-requires : tie.Need-wide-requires Inv-loop μ-loop
-wide-requires c κs = search needs
-
 loop-holds : tie.Need-loop-holds Inv-loop μ-loop
 loop-holds c = filling-start _ _ _ _ _ (c .before .before .before .before .before .before .before .before .before .before .before .pre) _ (c .before .before .before .clear .ensures)
 
 count-rule-requires : tie.Need-count-rule-requires Inv-loop μ-loop
 count-rule-requires c κs = let i = c .before .before in let l = i .before in let w = l .before in filling-rule _ _ _ _ _ (w .before .before .before .before .before .before .before .before .before .before .before .pre) _ _ _ (l .loop .inv) _ (w .wide .ensures .0) (i .loop-test .taken)
-
-add-r : tie.Need-add-r Inv-loop μ-loop
-add-r c = search needs
-
-loop-less : tie.Need-loop-less Inv-loop μ-loop
-loop-less c = search needs
 
 loop-again : tie.Need-loop-again Inv-loop μ-loop
 loop-again c = let k = c .before .before in let i = k .before .before .before in let l = i .before in let w = l .before in filling-on _ _ _ _ _ (w .before .before .before .before .before .before .before .before .before .before .before .pre) _ _ _ (l .loop .inv) _ (w .wide .ensures .0) (i .loop-test .taken) _ _ _ (k .count-rule .ensures)
@@ -47,12 +35,12 @@ count-fill-spec =
     (tie.spec
     Inv-loop
     μ-loop
-    clear-requires
-    wide-requires
+    (λ c κs. search needs)  -- clear-requires
+    (λ c κs. search needs)  -- wide-requires
     loop-holds
     count-rule-requires
-    add-r
-    loop-less
+    (λ c. search needs)  -- add-r
+    (λ c. search needs)  -- loop-less
     loop-again
     same-length
     returns)

@@ -13,7 +13,7 @@ use Rattle.listings.proofs.inner.numbers.+length_production+length_rule
 use Rattle.listings.proofs.inner.numbers.length_rule.Reads as length-rule
 use Rattle.listings.proofs.inner.numbers.length_rule.Kinds as length-rule-kinds
 use Rattle.listings.proofs.inner.numbers.+length_production+length_rule.Lts-length_rule as length-rule-lts
-use Rattle.costs.proofs.inner.entry_at.Reads as entry-at-reads
+use Rattle.engine.proofs.inner.cost.entry_at.Reads as entry-at-reads
 use Rattle.grammar.proofs.inner.start_at.Reads as start-at-reads
 use Rattle.grammar.proofs.inner.wide.Reads as wide-reads
 use Rattle.listings.proofs.inner.numbers.find.Reads as find-reads
@@ -69,26 +69,11 @@ length-production-μ-loop rules owners starts symbols costs next cost choice len
 length-production-loop-holds : (t : ℕ) → length-production-lts.Need-loop-holds (length-production-calls t) (length-production-at t) length-production.Post length-production-Inv-loop length-production-μ-loop
 length-production-loop-holds t c = measuring-start _ _ _ _ _ _ _ _ _ _ (c .before .before .before .before .before .before .before .pre .1)
 
-length-production-mul-s : (t : ℕ) → length-production-lts.Need-mul-s (length-production-calls t) (length-production-at t) length-production.Post length-production-Inv-loop length-production-μ-loop
-length-production-mul-s t c = search needs
-
-length-production-shared-slice-read-s : (t : ℕ) → length-production-lts.Need-shared-slice-read-s (length-production-calls t) (length-production-at t) length-production.Post length-production-Inv-loop length-production-μ-loop
-length-production-shared-slice-read-s t c = search needs
-
-length-production-add-i : (t : ℕ) → length-production-lts.Need-add-i (length-production-calls t) (length-production-at t) length-production.Post length-production-Inv-loop length-production-μ-loop
-length-production-add-i t c = search needs
-
 length-production-add-requires : (t : ℕ) → length-production-lts.Need-add-requires (length-production-calls t) (length-production-at t) length-production.Post length-production-Inv-loop length-production-μ-loop
 length-production-add-requires t c κs = let i = c .before .before in let l = i .before in measuring-one _ _ _ _ _ _ _ _ _ _ (l .before .before .before .before .before .before .before .before .pre .1) _ _ _ (l .loop .inv) (i .loop-test .taken) _ refl
 
-length-production-loop-less : (t : ℕ) → length-production-lts.Need-loop-less (length-production-calls t) (length-production-at t) length-production.Post length-production-Inv-loop length-production-μ-loop
-length-production-loop-less t c = search needs
-
 length-production-loop-again : (t : ℕ) → length-production-lts.Need-loop-again (length-production-calls t) (length-production-at t) length-production.Post length-production-Inv-loop length-production-μ-loop
 length-production-loop-again t c = let u = c .before in let i = u .before .before in let l = i .before in measuring-token _ _ _ _ _ _ _ _ _ _ (l .before .before .before .before .before .before .before .before .pre .1) _ _ _ (l .loop .inv) (i .loop-test .taken) _ refl (u .if1 .taken) _ (c .add .ensures)
-
-length-production-wide-requires : (t : ℕ) → length-production-lts.Need-wide-requires (length-production-calls t) (length-production-at t) length-production.Post length-production-Inv-loop length-production-μ-loop
-length-production-wide-requires t c κs = search needs
 
 length-production-entry-at-requires : (t : ℕ) → length-production-lts.Need-entry-at-requires (length-production-calls t) (length-production-at t) length-production.Post length-production-Inv-loop length-production-μ-loop
 length-production-entry-at-requires t c κs = let w = c in let u = w .before in let i = u .before .before in let l = i .before in along-entry _ _ _ _ _ _ _ _ _ _ (l .before .before .before .before .before .before .before .before .pre .1) _ _ (l .loop .inv .along) (i .loop-test .taken) _ refl (u .if1 .left) _ (w .wide .ensures .0)
@@ -98,9 +83,6 @@ length-production-entry-at-requires-2 t c κs = let w = c .before .before in let
 
 length-production-add-requires-2 : (t : ℕ) → length-production-lts.Need-add-requires-2 (length-production-calls t) (length-production-at t) length-production.Post length-production-Inv-loop length-production-μ-loop
 length-production-add-requires-2 t c κs = let v = c .before in let n = v .before in let w = n .before in let u = w .before in let i = u .before .before in let l = i .before in measuring-caps _ _ _ _ _ _ _ _ _ _ (l .before .before .before .before .before .before .before .before .pre .1) _ _ _ (l .loop .inv) (i .loop-test .taken) _ refl (u .if1 .left) _ (w .wide .ensures .0) _ (n .entry-at .ensures) (v .if2 .taken) _ (c .entry-at2 .ensures)
-
-length-production-loop-less-2 : (t : ℕ) → length-production-lts.Need-loop-less-2 (length-production-calls t) (length-production-at t) length-production.Post length-production-Inv-loop length-production-μ-loop
-length-production-loop-less-2 t c = search needs
 
 length-production-loop-again-2 : (t : ℕ) → length-production-lts.Need-loop-again-2 (length-production-calls t) (length-production-at t) length-production.Post length-production-Inv-loop length-production-μ-loop
 length-production-loop-again-2 t c = let y = c .before in let v = y .before in let n = v .before in let w = n .before in let u = w .before in let i = u .before .before in let l = i .before in measuring-first _ _ _ _ _ _ _ _ _ _ (l .before .before .before .before .before .before .before .before .pre .1) _ _ _ (l .loop .inv) (i .loop-test .taken) _ refl (u .if1 .left) _ (w .wide .ensures .0) _ (n .entry-at .ensures) (v .if2 .taken) _ (y .entry-at2 .ensures) _ (c .add2 .ensures)
@@ -124,9 +106,6 @@ length-production-add-requires-3 t c κs = let v = c .before .before in let n = 
 length-production-add-j : (t : ℕ) → length-production-lts.Need-add-j (length-production-calls t) (length-production-at t) length-production.Post length-production-Inv-loop length-production-μ-loop
 length-production-add-j t c = let v = c .before .before .before in let n = v .before in let w = n .before in let u = w .before in let i = u .before .before in let l = i .before in omega (arith, along-place _ _ _ _ _ _ _ _ _ _ (l .before .before .before .before .before .before .before .before .pre .1) _ _ (l .loop .inv .along) (i .loop-test .taken) _ refl (u .if1 .left) _ (w .wide .ensures .0) _ (n .entry-at .ensures) (v .if2 .left))
 
-length-production-loop-less-3 : (t : ℕ) → length-production-lts.Need-loop-less-3 (length-production-calls t) (length-production-at t) length-production.Post length-production-Inv-loop length-production-μ-loop
-length-production-loop-less-3 t c = search needs
-
 length-production-loop-again-3 : (t : ℕ) → length-production-lts.Need-loop-again-3 (length-production-calls t) (length-production-at t) length-production.Post length-production-Inv-loop length-production-μ-loop
 length-production-loop-again-3 t c = let y = c .before in let v = y .before .before in let n = v .before in let w = n .before in let u = w .before in let i = u .before .before in let l = i .before in measuring-on _ _ _ _ _ _ _ _ _ _ (l .before .before .before .before .before .before .before .before .pre .1) _ _ _ (l .loop .inv) (i .loop-test .taken) _ refl (u .if1 .left) _ (w .wide .ensures .0) _ (n .entry-at .ensures) (v .if2 .left) _ refl _ (y .length-rule .ensures) _ (c .add3 .ensures)
 
@@ -148,9 +127,6 @@ length-rule-find-requires t c κs = measured-find _ _ _ _ _ _ _ _ _ (c .before .
 length-rule-start-at-requires : (t : ℕ) → length-rule-lts.Need-start-at-requires (length-rule-calls t) (length-rule-at t) length-rule.Post
 length-rule-start-at-requires t c κs = let f = c in measured-start-at _ _ _ _ _ _ _ _ _ (f .before .before .before .before .before .before .before .before .before .before .pre .1) _ _ (f .find .ensures)
 
-length-rule-add-start-at : (t : ℕ) → length-rule-lts.Need-add-start-at (length-rule-calls t) (length-rule-at t) length-rule.Post
-length-rule-add-start-at t c = search needs
-
 length-rule-start-at-requires-2 : (t : ℕ) → length-rule-lts.Need-start-at-requires-2 (length-rule-calls t) (length-rule-at t) length-rule.Post
 length-rule-start-at-requires-2 t c κs = let f = c .before in measured-next-at _ _ _ _ _ _ _ _ _ (f .before .before .before .before .before .before .before .before .before .before .pre .1) _ _ (f .find .ensures)
 
@@ -170,24 +146,24 @@ pub +length-production+length-rule-spec : {M : Type 1} → statement M
     length-production-Inv-loop
     length-production-μ-loop
     (length-production-loop-holds t)
-    (length-production-mul-s t)
-    (length-production-shared-slice-read-s t)
-    (length-production-add-i t)
+    (λ c. search needs)  -- length-production-mul-s
+    (λ c. search needs)  -- length-production-shared-slice-read-s
+    (λ c. search needs)  -- length-production-add-i
     (length-production-add-requires t)
-    (length-production-loop-less t)
+    (λ c. search needs)  -- length-production-loop-less
     (length-production-loop-again t)
-    (length-production-wide-requires t)
+    (λ c κs. search needs)  -- length-production-wide-requires
     (length-production-entry-at-requires t)
     (length-production-entry-at-requires-2 t)
     (length-production-add-requires-2 t)
-    (length-production-loop-less-2 t)
+    (λ c. search needs)  -- length-production-loop-less-2
     (length-production-loop-again-2 t)
     (length-production-mul-length-rule t)
     (length-production-element-copy-out-length-rule t)
     (length-production-length-rule-requires t)
     (length-production-add-requires-3 t)
     (length-production-add-j t)
-    (length-production-loop-less-3 t)
+    (λ c. search needs)  -- length-production-loop-less-3
     (length-production-loop-again-3 t)
     (length-production-returns t))
     λ t. length-rule-lts.spec (length-rule-calls t) (length-rule-at t)
@@ -197,7 +173,7 @@ pub +length-production+length-rule-spec : {M : Type 1} → statement M
     (length-rule-sub-find t)
     (length-rule-find-requires t)
     (length-rule-start-at-requires t)
-    (length-rule-add-start-at t)
+    (λ c. search needs)  -- length-rule-add-start-at
     (length-rule-start-at-requires-2 t)
     (length-rule-sub-length-production t)
     (length-rule-length-production-requires t)

@@ -14,7 +14,7 @@ use Rattle.listings.proofs.inner.numbers.+write_production+write_rule.L
 use Rattle.listings.proofs.inner.numbers.write_rule.Reads as write-rule
 use Rattle.listings.proofs.inner.numbers.write_rule.Kinds as write-rule-kinds
 use Rattle.listings.proofs.inner.numbers.+write_production+write_rule.Lts-write_rule as write-rule-lts
-use Rattle.costs.proofs.inner.entry_at.Reads as entry-at-reads
+use Rattle.engine.proofs.inner.cost.entry_at.Reads as entry-at-reads
 use Rattle.grammar.proofs.inner.start_at.Reads as start-at-reads
 use Rattle.grammar.proofs.inner.wide.Reads as wide-reads
 use Rattle.listings.proofs.inner.numbers.find.Reads as find-reads
@@ -70,15 +70,6 @@ write-production-μ-loop rules owners starts symbols costs next cost choice leng
 write-production-loop-holds : (t : ℕ) → write-production-lts.Need-loop-holds (write-production-calls t) (write-production-at t) write-production.Post write-production-Inv-loop write-production-μ-loop
 write-production-loop-holds t c = writing-start _ _ _ _ _ _ _ _ _ _ _ _ _ (c .before .before .before .before .before .before .before .before .pre .1)
 
-write-production-mul-s : (t : ℕ) → write-production-lts.Need-mul-s (write-production-calls t) (write-production-at t) write-production.Post write-production-Inv-loop write-production-μ-loop
-write-production-mul-s t c = search needs
-
-write-production-shared-slice-read-s : (t : ℕ) → write-production-lts.Need-shared-slice-read-s (write-production-calls t) (write-production-at t) write-production.Post write-production-Inv-loop write-production-μ-loop
-write-production-shared-slice-read-s t c = search needs
-
-write-production-add-i : (t : ℕ) → write-production-lts.Need-add-i (write-production-calls t) (write-production-at t) write-production.Post write-production-Inv-loop write-production-μ-loop
-write-production-add-i t c = search needs
-
 write-production-mul-out : (t : ℕ) → write-production-lts.Need-mul-out (write-production-calls t) (write-production-at t) write-production.Post write-production-Inv-loop write-production-μ-loop
 write-production-mul-out t c = let i = c .before .before in let l = i .before in omega (arith, writing-low _ _ _ _ _ _ _ _ _ _ _ _ _ (l .before .before .before .before .before .before .before .before .before .pre .1) _ _ _ _ _ (l .loop .inv) (i .loop-test .taken) _ refl (c .if1 .taken))
 
@@ -88,23 +79,14 @@ write-production-slice-write-out t c = let i = c .before .before in let l = i .b
 write-production-add-to : (t : ℕ) → write-production-lts.Need-add-to (write-production-calls t) (write-production-at t) write-production.Post write-production-Inv-loop write-production-μ-loop
 write-production-add-to t c = let i = c .before .before in let l = i .before in omega (arith, writing-low _ _ _ _ _ _ _ _ _ _ _ _ _ (l .before .before .before .before .before .before .before .before .before .pre .1) _ _ _ _ _ (l .loop .inv) (i .loop-test .taken) _ refl (c .if1 .taken))
 
-write-production-loop-less : (t : ℕ) → write-production-lts.Need-loop-less (write-production-calls t) (write-production-at t) write-production.Post write-production-Inv-loop write-production-μ-loop
-write-production-loop-less t c = search needs
-
 write-production-loop-again : (t : ℕ) → write-production-lts.Need-loop-again (write-production-calls t) (write-production-at t) write-production.Post write-production-Inv-loop write-production-μ-loop
 write-production-loop-again t c = let i = c .before .before in let l = i .before in writing-token _ _ _ _ _ _ _ _ _ _ _ _ _ (l .before .before .before .before .before .before .before .before .before .pre .1) _ _ _ _ _ (l .loop .inv) (i .loop-test .taken) _ refl (c .if1 .taken)
-
-write-production-wide-requires : (t : ℕ) → write-production-lts.Need-wide-requires (write-production-calls t) (write-production-at t) write-production.Post write-production-Inv-loop write-production-μ-loop
-write-production-wide-requires t c κs = search needs
 
 write-production-entry-at-requires : (t : ℕ) → write-production-lts.Need-entry-at-requires (write-production-calls t) (write-production-at t) write-production.Post write-production-Inv-loop write-production-μ-loop
 write-production-entry-at-requires t c κs = let w = c in let u = w .before in let i = u .before .before in let l = i .before in along-entry _ _ _ _ _ _ _ _ _ _ (l .before .before .before .before .before .before .before .before .before .pre .1 .measure) _ _ (l .loop .inv .along) (i .loop-test .taken) _ refl (u .if1 .left) _ (w .wide .ensures .0)
 
 write-production-expand-rule-requires : (t : ℕ) → write-production-lts.Need-expand-rule-requires (write-production-calls t) (write-production-at t) write-production.Post write-production-Inv-loop write-production-μ-loop
 write-production-expand-rule-requires t c κs = let v = c .before .before in let n = v .before in let w = n .before in let u = w .before in let i = u .before .before in let l = i .before in writing-first _ _ _ _ _ _ _ _ _ _ _ _ _ (l .before .before .before .before .before .before .before .before .before .pre .1) _ _ _ _ _ (l .loop .inv) (i .loop-test .taken) _ refl (u .if1 .left) _ (w .wide .ensures .0) _ (n .entry-at .ensures) (v .if2 .taken)
-
-write-production-loop-less-2 : (t : ℕ) → write-production-lts.Need-loop-less-2 (write-production-calls t) (write-production-at t) write-production.Post write-production-Inv-loop write-production-μ-loop
-write-production-loop-less-2 t c = search needs
 
 write-production-loop-again-2 : (t : ℕ) → write-production-lts.Need-loop-again-2 (write-production-calls t) (write-production-at t) write-production.Post write-production-Inv-loop write-production-μ-loop
 write-production-loop-again-2 t c = let y = c .before .before in let v = y .before .before .before in let n = v .before in let w = n .before in let u = w .before in let i = u .before .before in let l = i .before in writing-one _ _ _ _ _ _ _ _ _ _ _ _ _ (l .before .before .before .before .before .before .before .before .before .pre .1) _ _ _ _ _ (l .loop .inv) (i .loop-test .taken) _ refl (u .if1 .left) _ (w .wide .ensures .0) _ (n .entry-at .ensures) (v .if2 .taken) _ _ _ (y .expand-rule .ensures)
@@ -125,9 +107,6 @@ write-production-write-rule-requires t c κs = let v = c .before .before .before
 write-production-add-j : (t : ℕ) → write-production-lts.Need-add-j (write-production-calls t) (write-production-at t) write-production.Post write-production-Inv-loop write-production-μ-loop
 write-production-add-j t c = let v = c .before .before .before .before .before .before in let n = v .before in let w = n .before in let u = w .before in let i = u .before .before in let l = i .before in omega (arith, along-place _ _ _ _ _ _ _ _ _ _ (l .before .before .before .before .before .before .before .before .before .pre .1 .measure) _ _ (l .loop .inv .along) (i .loop-test .taken) _ refl (u .if1 .left) _ (w .wide .ensures .0) _ (n .entry-at .ensures) (v .if2 .left))
 
-write-production-loop-less-3 : (t : ℕ) → write-production-lts.Need-loop-less-3 (write-production-calls t) (write-production-at t) write-production.Post write-production-Inv-loop write-production-μ-loop
-write-production-loop-less-3 t c = search needs
-
 write-production-loop-again-3 : (t : ℕ) → write-production-lts.Need-loop-again-3 (write-production-calls t) (write-production-at t) write-production.Post write-production-Inv-loop write-production-μ-loop
 write-production-loop-again-3 t c = let y = c .before .before in let v = y .before .before .before .before in let n = v .before in let w = n .before in let u = w .before in let i = u .before .before in let l = i .before in writing-on _ _ _ _ _ _ _ _ _ _ _ _ _ (l .before .before .before .before .before .before .before .before .before .pre .1) _ _ _ _ _ (l .loop .inv) (i .loop-test .taken) _ refl (u .if1 .left) _ (w .wide .ensures .0) _ (n .entry-at .ensures) (v .if2 .left) _ refl _ _ _ (y .write-rule .ensures)
 
@@ -139,9 +118,6 @@ write-production-returns t c = let l = c .before in writing-end _ _ _ _ _ _ _ _ 
 
 write-rule-expand-rule-requires : (t : ℕ) → write-rule-lts.Need-expand-rule-requires (write-rule-calls t) (write-rule-at t) write-rule.Post
 write-rule-expand-rule-requires t c κs = let u = c .before .before in written-ready _ _ _ _ _ _ _ _ _ _ _ _ (u .before .before .before .before .before .before .before .before .before .pre .1) (u .if1 .taken)
-
-write-rule-same-length : (t : ℕ) → write-rule-lts.Need-same-length (write-rule-calls t) (write-rule-at t) write-rule.Post
-write-rule-same-length t c = search needs
 
 write-rule-returns : (t : ℕ) → write-rule-lts.Need-returns (write-rule-calls t) (write-rule-at t) write-rule.Post
 write-rule-returns t c = let y = c .before .before in let u = y .before .before .before in written-first _ _ _ _ _ _ _ _ _ _ _ _ (u .before .before .before .before .before .before .before .before .before .pre .1) (u .if1 .taken) _ _ _ (y .expand-rule .ensures)
@@ -155,9 +131,6 @@ write-rule-find-requires t c κs = measured-find _ _ _ _ _ _ _ _ _ (c .before .b
 write-rule-start-at-requires : (t : ℕ) → write-rule-lts.Need-start-at-requires (write-rule-calls t) (write-rule-at t) write-rule.Post
 write-rule-start-at-requires t c κs = let f = c in measured-start-at _ _ _ _ _ _ _ _ _ (f .before .before .before .before .before .before .before .before .before .before .before .pre .1 .measure) _ _ (f .find .ensures)
 
-write-rule-add-start-at : (t : ℕ) → write-rule-lts.Need-add-start-at (write-rule-calls t) (write-rule-at t) write-rule.Post
-write-rule-add-start-at t c = search needs
-
 write-rule-start-at-requires-2 : (t : ℕ) → write-rule-lts.Need-start-at-requires-2 (write-rule-calls t) (write-rule-at t) write-rule.Post
 write-rule-start-at-requires-2 t c κs = let f = c .before in measured-next-at _ _ _ _ _ _ _ _ _ (f .before .before .before .before .before .before .before .before .before .before .before .pre .1 .measure) _ _ (f .find .ensures)
 
@@ -166,9 +139,6 @@ write-rule-sub-write-production t c = let f = c .before .before in measured-leve
 
 write-rule-write-production-requires : (t : ℕ) → write-rule-lts.Need-write-production-requires (write-rule-calls t) (write-rule-at t) write-rule.Post
 write-rule-write-production-requires t c κs = let q = c .before .before .before in let i = q .before in let f = i .before in (omega (arith, f .before .before .before .before .before .before .before .before .before .before .before .pre .0, measured-level _ _ _ _ _ _ _ _ _ (f .before .before .before .before .before .before .before .before .before .before .before .pre .1 .measure)), written-production _ _ _ _ _ _ _ _ _ _ _ _ (f .before .before .before .before .before .before .before .before .before .before .before .pre .1) _ _ (f .find .ensures) _ _ (i .start-at .ensures .0) (q .start-at2 .ensures .0))
-
-write-rule-same-length-2 : (t : ℕ) → write-rule-lts.Need-same-length-2 (write-rule-calls t) (write-rule-at t) write-rule.Post
-write-rule-same-length-2 t c = search needs
 
 write-rule-returns-2 : (t : ℕ) → write-rule-lts.Need-returns-2 (write-rule-calls t) (write-rule-at t) write-rule.Post
 write-rule-returns-2 t c = let y = c .before .before in let q = y .before .before .before .before in let i = q .before in let f = i .before in written-is _ _ _ _ _ _ _ _ _ _ _ _ (f .before .before .before .before .before .before .before .before .before .before .before .pre .1) _ _ (f .find .ensures) _ _ (i .start-at .ensures .0) (q .start-at2 .ensures .0) _ _ _ (y .write-production .ensures)
@@ -180,38 +150,38 @@ pub +write-production+write-rule-spec : {M : Type 1} → statement M
     write-production-Inv-loop
     write-production-μ-loop
     (write-production-loop-holds t)
-    (write-production-mul-s t)
-    (write-production-shared-slice-read-s t)
-    (write-production-add-i t)
+    (λ c. search needs)  -- write-production-mul-s
+    (λ c. search needs)  -- write-production-shared-slice-read-s
+    (λ c. search needs)  -- write-production-add-i
     (write-production-mul-out t)
     (write-production-slice-write-out t)
     (write-production-add-to t)
-    (write-production-loop-less t)
+    (λ c. search needs)  -- write-production-loop-less
     (write-production-loop-again t)
-    (write-production-wide-requires t)
+    (λ c κs. search needs)  -- write-production-wide-requires
     (write-production-entry-at-requires t)
     (write-production-expand-rule-requires t)
-    (write-production-loop-less-2 t)
+    (λ c. search needs)  -- write-production-loop-less-2
     (write-production-loop-again-2 t)
     (write-production-mul-write-rule t)
     (write-production-element-copy-out-write-rule t)
     (write-production-write-rule-requires t)
     (write-production-add-j t)
-    (write-production-loop-less-3 t)
+    (λ c. search needs)  -- write-production-loop-less-3
     (write-production-loop-again-3 t)
     (write-production-same-length t)
     (write-production-returns t))
     λ t. write-rule-lts.spec (write-rule-calls t) (write-rule-at t)
     write-rule.Post
     (write-rule-expand-rule-requires t)
-    (write-rule-same-length t)
+    (λ c. search needs)  -- write-rule-same-length
     (write-rule-returns t)
     (write-rule-sub-find t)
     (write-rule-find-requires t)
     (write-rule-start-at-requires t)
-    (write-rule-add-start-at t)
+    (λ c. search needs)  -- write-rule-add-start-at
     (write-rule-start-at-requires-2 t)
     (write-rule-sub-write-production t)
     (write-rule-write-production-requires t)
-    (write-rule-same-length-2 t)
+    (λ c. search needs)  -- write-rule-same-length-2
     (write-rule-returns-2 t)

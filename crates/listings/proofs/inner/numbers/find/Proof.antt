@@ -18,20 +18,11 @@ abbrev μ-loop : tie.MeasureT-loop
 mul-wide : tie.Need-mul-wide Inv-loop μ-loop
 mul-wide c = omega (arith, find-place _ _ _ _ _ _ _ _ (c .before .before .before .before .before .before .pre .numbered))
 
-element-copy-out-wide : tie.Need-element-copy-out-wide Inv-loop μ-loop
-element-copy-out-wide c = find-place _ _ _ _ _ _ _ _ (c .before .before .before .before .before .before .pre .numbered)
-
-wide-requires : tie.Need-wide-requires Inv-loop μ-loop
-wide-requires c κs = search needs
-
 loop-holds : tie.Need-loop-holds Inv-loop μ-loop
 loop-holds c = let s = c .before .before .before .before .before .before .before .before in find-start _ _ _ _ _ _ _ _ (s .pre .numbered) _ (s .pre .begun) _ (c .wide .ensures .0)
 
 start-at-requires : tie.Need-start-at-requires Inv-loop μ-loop
 start-at-requires c κs = let l = c in find-start-at _ _ _ _ _ _ _ _ (l .before .before .before .before .before .before .before .before .before .pre .numbered) _ _ _ (l .loop .inv)
-
-add-start-at : tie.Need-add-start-at Inv-loop μ-loop
-add-start-at c = search needs
 
 start-at-requires-2 : tie.Need-start-at-requires-2 Inv-loop μ-loop
 start-at-requires-2 c κs = let l = c .before in find-next-at _ _ _ _ _ _ _ _ (l .before .before .before .before .before .before .before .before .before .pre .numbered) _ _ _ (l .loop .inv)
@@ -42,12 +33,6 @@ places-requires c κs = let e = c .before in let i = e .before in let l = i .bef
 show-requires : tie.Need-show-requires Inv-loop μ-loop
 show-requires c κs = let q = c .before .before in let e = q .before .before in let i = e .before in let l = i .before in find-turnable _ _ _ _ _ _ _ _ (l .before .before .before .before .before .before .before .before .before .pre .numbered) _ _ _ (l .loop .inv) _ _ (i .start-at .ensures .0) (e .start-at2 .ensures .0) _ _ (q .places .ensures)
 
-enum-known-t : tie.Need-enum-known-t Inv-loop μ-loop
-enum-known-t c = search needs
-
-enum-told : tie.Need-enum-told Inv-loop μ-loop
-enum-told c = search needs
-
 returns : tie.Need-returns Inv-loop μ-loop
 returns c = let w = c .before .before in let q = w .before .before .before in let e = q .before .before in let i = e .before in let l = i .before in find-found _ _ _ _ _ _ _ _ (l .before .before .before .before .before .before .before .before .before .pre .numbered) _ _ _ (l .loop .inv) _ _ (i .start-at .ensures .0) (e .start-at2 .ensures .0) _ _ (q .places .ensures) _ _ (w .show .ensures) (c .enum-told .given .1)
 
@@ -56,9 +41,6 @@ mul-wide-2 c = let k = c in let w = k .before .before .before in let q = w .befo
 
 element-copy-out-wide-2 : tie.Need-element-copy-out-wide-2 Inv-loop μ-loop
 element-copy-out-wide-2 c = let k = c in let w = k .before .before .before in let q = w .before .before .before in let e = q .before .before in let i = e .before in let l = i .before in find-link _ _ _ _ _ _ _ _ (l .before .before .before .before .before .before .before .before .before .pre .numbered) _ _ _ (l .loop .inv)
-
-wide-requires-2 : tie.Need-wide-requires-2 Inv-loop μ-loop
-wide-requires-2 c κs = search needs
 
 cheapest-from-requires : tie.Need-cheapest-from-requires Inv-loop μ-loop
 cheapest-from-requires c κs = let d = c in let k = d .before .before in let w = k .before .before .before in let q = w .before .before .before in let e = q .before .before in let i = e .before in let l = i .before in find-from _ _ _ _ _ _ _ _ (l .before .before .before .before .before .before .before .before .before .pre .numbered) _ _ _ (l .loop .inv) _ _ (i .start-at .ensures .0) (e .start-at2 .ensures .0) _ _ (q .places .ensures) _ _ (w .show .ensures) _ (k .before .t .given .1) _ (d .wide2 .ensures .0)
@@ -76,20 +58,20 @@ find-spec =
     Inv-loop
     μ-loop
     mul-wide
-    element-copy-out-wide
-    wide-requires
+    (λ c. find-place _ _ _ _ _ _ _ _ (c .before .before .before .before .before .before .pre .numbered))  -- element-copy-out-wide
+    (λ c κs. search needs)  -- wide-requires
     loop-holds
     start-at-requires
-    add-start-at
+    (λ c. search needs)  -- add-start-at
     start-at-requires-2
     places-requires
     show-requires
-    enum-known-t
-    enum-told
+    (λ c. search needs)  -- enum-known-t
+    (λ c. search needs)  -- enum-told
     returns
     mul-wide-2
     element-copy-out-wide-2
-    wide-requires-2
+    (λ c κs. search needs)  -- wide-requires-2
     cheapest-from-requires
     loop-less
     loop-again)

@@ -13,47 +13,8 @@ Inv-loop rules owners starts symbols costs cost choice₀ head next r₀ r-end c
 abbrev μ-loop : tie.MeasureT-loop
 μ-loop rules owners starts symbols costs cost choice₀ head next r₀ r-end choice r = rules - r
 
-slice-aggregate-links : tie.Need-slice-aggregate-links Inv-loop μ-loop
-slice-aggregate-links c = search needs
-
-slice-aggregate-links-2 : tie.Need-slice-aggregate-links-2 Inv-loop μ-loop
-slice-aggregate-links-2 c = search needs
-
-links-requires : tie.Need-links-requires Inv-loop μ-loop
-links-requires c κs = search (needs, choice-links)
-
-wide-requires : tie.Need-wide-requires Inv-loop μ-loop
-wide-requires c κs = search needs
-
-loop-holds : tie.Need-loop-holds Inv-loop μ-loop
-loop-holds c = search (needs, choosing-start)
-
-mul-wide : tie.Need-mul-wide Inv-loop μ-loop
-mul-wide c = search (needs, choice-place)
-
-array-read-wide : tie.Need-array-read-wide Inv-loop μ-loop
-array-read-wide c = search (needs, choice-place)
-
-wide-requires-2 : tie.Need-wide-requires-2 Inv-loop μ-loop
-wide-requires-2 c κs = search needs
-
 cheapest-from-requires : tie.Need-cheapest-from-requires Inv-loop μ-loop
 cheapest-from-requires c κs = let w = c .before in let l = w .before .before in let k = l .before .before .before .before in let s = k .before .before .before .before .before .before .before .before in choosing-ready _ _ _ (s .pre) _ _ (k .links .ensures) _ _ (l .loop .inv) (omega arith) _ (w .wide2 .ensures .0)
-
-cast-choice : tie.Need-cast-choice Inv-loop μ-loop
-cast-choice c = search needs
-
-mul-choice : tie.Need-mul-choice Inv-loop μ-loop
-mul-choice c = search (needs, choice-place)
-
-element-write-choice : tie.Need-element-write-choice Inv-loop μ-loop
-element-write-choice c = search (needs, choice-place)
-
-add-r : tie.Need-add-r Inv-loop μ-loop
-add-r c = search needs
-
-loop-less : tie.Need-loop-less Inv-loop μ-loop
-loop-less c = search needs
 
 loop-again : tie.Need-loop-again Inv-loop μ-loop
 loop-again c = let w = c .before .before in let l = w .before .before in let k = l .before .before .before .before in let s = k .before .before .before .before .before .before .before .before in choosing-on _ _ _ (s .pre) _ _ (k .links .ensures) _ _ (l .loop .inv) (omega arith) _ (w .wide2 .ensures .0) _ (c .cheapest-from .ensures)
@@ -67,19 +28,19 @@ choices-spec =
     (tie.spec
     Inv-loop
     μ-loop
-    slice-aggregate-links
-    slice-aggregate-links-2
-    links-requires
-    wide-requires
-    loop-holds
-    mul-wide
-    array-read-wide
-    wide-requires-2
+    (λ c. search needs)  -- slice-aggregate-links
+    (λ c. search needs)  -- slice-aggregate-links-2
+    (λ c κs. search (needs, choice-links))  -- links-requires
+    (λ c κs. search needs)  -- wide-requires
+    (λ c. search (needs, choosing-start))  -- loop-holds
+    (λ c. search (needs, choice-place))  -- mul-wide
+    (λ c. search (needs, choice-place))  -- array-read-wide
+    (λ c κs. search needs)  -- wide-requires-2
     cheapest-from-requires
-    cast-choice
-    mul-choice
-    element-write-choice
-    add-r
-    loop-less
+    (λ c. search needs)  -- cast-choice
+    (λ c. search (needs, choice-place))  -- mul-choice
+    (λ c. search (needs, choice-place))  -- element-write-choice
+    (λ c. search needs)  -- add-r
+    (λ c. search needs)  -- loop-less
     loop-again
     returns)

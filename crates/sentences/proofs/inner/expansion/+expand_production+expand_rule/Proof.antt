@@ -13,7 +13,7 @@ use Rattle.sentences.proofs.inner.expansion.+expand_production+expand_r
 use Rattle.sentences.proofs.inner.expansion.expand_rule.Reads as expand-rule
 use Rattle.sentences.proofs.inner.expansion.expand_rule.Kinds as expand-rule-kinds
 use Rattle.sentences.proofs.inner.expansion.+expand_production+expand_rule.Lts-expand_rule as expand-rule-lts
-use Rattle.costs.proofs.inner.entry_at.Reads as entry-at-reads
+use Rattle.engine.proofs.inner.cost.entry_at.Reads as entry-at-reads
 use Rattle.grammar.proofs.inner.start_at.Reads as start-at-reads
 use Rattle.grammar.proofs.inner.wide.Reads as wide-reads
 use Rattle.sentences.proofs.inner.expansion.copy.Reads as copy-reads
@@ -64,18 +64,6 @@ expand-production-Inv-loop rules owners starts symbols costs choice lengths leve
 abbrev expand-production-μ-loop : expand-production-lts.MeasureT-loop
 expand-production-μ-loop rules owners starts symbols costs choice lengths levels a e at begun₀ out₀ next₀ i₀ begun out next i = e - i
 
-expand-production-loop-holds : (t : ℕ) → expand-production-lts.Need-loop-holds (production-calls t) (expand-production-at t) expand-production.Post expand-production-Inv-loop expand-production-μ-loop
-expand-production-loop-holds t c = expanding-start _ _ _ _ _ _ _ _ _ (c .before .before .before .before .before .before .pre .1)
-
-expand-production-mul-s : (t : ℕ) → expand-production-lts.Need-mul-s (production-calls t) (expand-production-at t) expand-production.Post expand-production-Inv-loop expand-production-μ-loop
-expand-production-mul-s t c = search needs
-
-expand-production-shared-slice-read-s : (t : ℕ) → expand-production-lts.Need-shared-slice-read-s (production-calls t) (expand-production-at t) expand-production.Post expand-production-Inv-loop expand-production-μ-loop
-expand-production-shared-slice-read-s t c = search needs
-
-expand-production-add-i : (t : ℕ) → expand-production-lts.Need-add-i (production-calls t) (expand-production-at t) expand-production.Post expand-production-Inv-loop expand-production-μ-loop
-expand-production-add-i t c = search needs
-
 expand-production-mul-out : (t : ℕ) → expand-production-lts.Need-mul-out (production-calls t) (expand-production-at t) expand-production.Post expand-production-Inv-loop expand-production-μ-loop
 expand-production-mul-out t c = let i = c .before .before in let l = i .before in omega (arith, expanding-low _ _ _ _ _ _ _ _ _ (l .before .before .before .before .before .before .before .pre .1) _ _ _ _ (l .loop .inv) (i .loop-test .taken) _ refl (c .if1 .taken))
 
@@ -85,20 +73,11 @@ expand-production-slice-write-out t c = let i = c .before .before in let l = i .
 expand-production-add-next : (t : ℕ) → expand-production-lts.Need-add-next (production-calls t) (expand-production-at t) expand-production.Post expand-production-Inv-loop expand-production-μ-loop
 expand-production-add-next t c = let i = c .before .before in let l = i .before in omega (arith, expanding-low _ _ _ _ _ _ _ _ _ (l .before .before .before .before .before .before .before .pre .1) _ _ _ _ (l .loop .inv) (i .loop-test .taken) _ refl (c .if1 .taken))
 
-expand-production-loop-less : (t : ℕ) → expand-production-lts.Need-loop-less (production-calls t) (expand-production-at t) expand-production.Post expand-production-Inv-loop expand-production-μ-loop
-expand-production-loop-less t c = search needs
-
 expand-production-loop-again : (t : ℕ) → expand-production-lts.Need-loop-again (production-calls t) (expand-production-at t) expand-production.Post expand-production-Inv-loop expand-production-μ-loop
 expand-production-loop-again t c = let i = c .before .before in let l = i .before in expanding-token _ _ _ _ _ _ _ _ _ (l .before .before .before .before .before .before .before .pre .1) _ _ _ _ (l .loop .inv) (i .loop-test .taken) _ refl (c .if1 .taken)
 
-expand-production-wide-requires : (t : ℕ) → expand-production-lts.Need-wide-requires (production-calls t) (expand-production-at t) expand-production.Post expand-production-Inv-loop expand-production-μ-loop
-expand-production-wide-requires t c κs = search needs
-
 expand-production-expand-rule-requires : (t : ℕ) → expand-production-lts.Need-expand-rule-requires (production-calls t) (expand-production-at t) expand-production.Post expand-production-Inv-loop expand-production-μ-loop
 expand-production-expand-rule-requires t c κs = let x = c .before .before in let i = x .before .before .before in let l = i .before in (omega (arith, l .before .before .before .before .before .before .before .pre .0), expanding-rule _ _ _ _ _ _ _ _ _ (l .before .before .before .before .before .before .before .pre .1) _ _ _ _ (l .loop .inv) (i .loop-test .taken) _ refl (x .before .if1 .left) _ (x .wide .ensures .0))
-
-expand-production-loop-less-2 : (t : ℕ) → expand-production-lts.Need-loop-less-2 (production-calls t) (expand-production-at t) expand-production.Post expand-production-Inv-loop expand-production-μ-loop
-expand-production-loop-less-2 t c = search needs
 
 expand-production-loop-again-2 : (t : ℕ) → expand-production-lts.Need-loop-again-2 (production-calls t) (expand-production-at t) expand-production.Post expand-production-Inv-loop expand-production-μ-loop
 expand-production-loop-again-2 t c = let y = c .before .before in let x = y .before .before .before in let i = x .before .before .before in let l = i .before in expanding-on _ _ _ _ _ _ _ _ _ (l .before .before .before .before .before .before .before .pre .1) _ _ _ _ (l .loop .inv) (i .loop-test .taken) _ refl (x .before .if1 .left) _ (x .wide .ensures .0) _ _ _ (y .expand-rule .ensures)
@@ -109,44 +88,17 @@ expand-production-same-length t c = let l = c .before in expanding-long _ _ _ _ 
 expand-production-returns : (t : ℕ) → expand-production-lts.Need-returns (production-calls t) (expand-production-at t) expand-production.Post expand-production-Inv-loop expand-production-μ-loop
 expand-production-returns t c = let l = c .before in expanding-end _ _ _ _ _ _ _ _ _ (l .before .before .before .before .before .before .before .pre .1) _ _ _ _ (l .loop .inv) (c .loop-test .left)
 
-expand-rule-entry-at-requires : (t : ℕ) → expand-rule-lts.Need-entry-at-requires (rule-calls t) (expand-rule-at t) expand-rule.Post
-expand-rule-entry-at-requires t c κs = search needs
-
 expand-rule-returns : (t : ℕ) → expand-rule-lts.Need-returns (rule-calls t) (expand-rule-at t) expand-rule.Post
 expand-rule-returns t c = let n = c .before in rule-empty _ _ _ _ _ _ _ _ (n .before .before .before .before .before .before .before .pre .1) _ (n .entry-at .ensures) (c .if1 .taken)
-
-expand-rule-mul-from : (t : ℕ) → expand-rule-lts.Need-mul-from (rule-calls t) (expand-rule-at t) expand-rule.Post
-expand-rule-mul-from t c = search needs
-
-expand-rule-element-copy-out-from : (t : ℕ) → expand-rule-lts.Need-element-copy-out-from (rule-calls t) (expand-rule-at t) expand-rule.Post
-expand-rule-element-copy-out-from t c = search needs
-
-expand-rule-size-requires : (t : ℕ) → expand-rule-lts.Need-size-requires (rule-calls t) (expand-rule-at t) expand-rule.Post
-expand-rule-size-requires t c κs = search needs
 
 expand-rule-copy-requires : (t : ℕ) → expand-rule-lts.Need-copy-requires (rule-calls t) (expand-rule-at t) expand-rule.Post
 expand-rule-copy-requires t c κs = let z = c .before in let w = z .before in let n = w .before .before .before in rule-copyable _ _ _ _ _ _ _ _ (n .before .before .before .before .before .before .before .pre .1) _ (n .entry-at .ensures) _ refl (w .if2 .taken) _ (z .size .ensures)
 
-expand-rule-same-length : (t : ℕ) → expand-rule-lts.Need-same-length (rule-calls t) (expand-rule-at t) expand-rule.Post
-expand-rule-same-length t c = search needs
-
 expand-rule-returns-2 : (t : ℕ) → expand-rule-lts.Need-returns-2 (rule-calls t) (expand-rule-at t) expand-rule.Post
 expand-rule-returns-2 t c = let k = c .before .before in let z = k .before .before in let w = z .before in let n = w .before .before .before in rule-copied _ _ _ _ _ _ _ _ (n .before .before .before .before .before .before .before .pre .1) _ (n .entry-at .ensures) _ refl (w .if2 .taken) _ (z .size .ensures) _ _ (k .copy .ensures)
 
-expand-rule-mul-wide : (t : ℕ) → expand-rule-lts.Need-mul-wide (rule-calls t) (expand-rule-at t) expand-rule.Post
-expand-rule-mul-wide t c = search needs
-
-expand-rule-element-copy-out-wide : (t : ℕ) → expand-rule-lts.Need-element-copy-out-wide (rule-calls t) (expand-rule-at t) expand-rule.Post
-expand-rule-element-copy-out-wide t c = search needs
-
-expand-rule-wide-requires : (t : ℕ) → expand-rule-lts.Need-wide-requires (rule-calls t) (expand-rule-at t) expand-rule.Post
-expand-rule-wide-requires t c κs = search needs
-
 expand-rule-start-at-requires : (t : ℕ) → expand-rule-lts.Need-start-at-requires (rule-calls t) (expand-rule-at t) expand-rule.Post
 expand-rule-start-at-requires t c κs = let s = c .before .before .before .before .before .before .before .before .before .before .before .before in rule-start _ _ _ _ _ _ _ _ (s .pre .1) _ (c .wide .ensures .0)
-
-expand-rule-add-start-at : (t : ℕ) → expand-rule-lts.Need-add-start-at (rule-calls t) (expand-rule-at t) expand-rule.Post
-expand-rule-add-start-at t c = search needs
 
 expand-rule-start-at-requires-2 : (t : ℕ) → expand-rule-lts.Need-start-at-requires-2 (rule-calls t) (expand-rule-at t) expand-rule.Post
 expand-rule-start-at-requires-2 t c κs = let w = c .before in let s = w .before .before .before .before .before .before .before .before .before .before .before .before in rule-next _ _ _ _ _ _ _ _ (s .pre .1) _ (w .wide .ensures .0)
@@ -157,14 +109,8 @@ expand-rule-sub-expand-production t c = let w = c .before .before in let s = w .
 expand-rule-expand-production-requires : (t : ℕ) → expand-rule-lts.Need-expand-production-requires (rule-calls t) (expand-rule-at t) expand-rule.Post
 expand-rule-expand-production-requires t c κs = let y = c .before .before in let z = y .before in let w = z .before in let s = w .before .before .before .before .before .before .before .before .before .before .before .before in (omega (arith, s .pre .0, rule-level _ _ _ _ _ _ _ _ (s .pre .1)), rule-production _ _ _ _ _ _ _ _ (s .pre .1) _ (w .wide .ensures .0) _ _ (z .start-at .ensures .0) (y .start-at2 .ensures .0))
 
-expand-rule-mul-begun : (t : ℕ) → expand-rule-lts.Need-mul-begun (rule-calls t) (expand-rule-at t) expand-rule.Post
-expand-rule-mul-begun t c = search needs
-
 expand-rule-element-write-begun : (t : ℕ) → expand-rule-lts.Need-element-write-begun (rule-calls t) (expand-rule-at t) expand-rule.Post
 expand-rule-element-write-begun t c = let w = c .before .before .before .before .before .before .before in let s = w .before .before .before .before .before .before .before .before .before .before .before .before in rule-choice _ _ _ _ _ _ _ _ (s .pre .1)
-
-expand-rule-same-length-2 : (t : ℕ) → expand-rule-lts.Need-same-length-2 (rule-calls t) (expand-rule-at t) expand-rule.Post
-expand-rule-same-length-2 t c = search needs
 
 expand-rule-returns-3 : (t : ℕ) → expand-rule-lts.Need-returns-3 (rule-calls t) (expand-rule-at t) expand-rule.Post
 expand-rule-returns-3 t c = let x = c .before .before in let y = x .before .before .before in let z = y .before in let w = z .before in let s = w .before .before .before .before .before .before .before .before .before .before .before .before in rule-wrote _ _ _ _ _ _ _ _ (s .pre .1) _ (w .wide .ensures .0) _ _ (z .start-at .ensures .0) (y .start-at2 .ensures .0) _ _ _ (x .expand-production .ensures)
@@ -172,41 +118,41 @@ expand-rule-returns-3 t c = let x = c .before .before in let y = x .before .befo
 pub +expand-production+expand-rule-spec : {M : Type 1} → statement M
 +expand-production+expand-rule-spec =
     close μ-expand-production μ-expand-rule (λ t. expand-production-lts.spec (production-calls t) (expand-production-at t) expand-production.Post expand-production-Inv-loop expand-production-μ-loop
-    (expand-production-loop-holds t)
-    (expand-production-mul-s t)
-    (expand-production-shared-slice-read-s t)
-    (expand-production-add-i t)
+    (λ c. expanding-start _ _ _ _ _ _ _ _ _ (c .before .before .before .before .before .before .pre .1))  -- expand-production-loop-holds
+    (λ c. search needs)  -- expand-production-mul-s
+    (λ c. search needs)  -- expand-production-shared-slice-read-s
+    (λ c. search needs)  -- expand-production-add-i
     (expand-production-mul-out t)
     (expand-production-slice-write-out t)
     (expand-production-add-next t)
-    (expand-production-loop-less t)
+    (λ c. search needs)  -- expand-production-loop-less
     (expand-production-loop-again t)
-    (expand-production-wide-requires t)
+    (λ c κs. search needs)  -- expand-production-wide-requires
     (expand-production-expand-rule-requires t)
-    (expand-production-loop-less-2 t)
+    (λ c. search needs)  -- expand-production-loop-less-2
     (expand-production-loop-again-2 t)
     (expand-production-same-length t)
     (expand-production-returns t))
     λ t. expand-rule-lts.spec (rule-calls t)
     (expand-rule-at t)
     expand-rule.Post
-    (expand-rule-entry-at-requires t)
+    (λ c κs. search needs)  -- expand-rule-entry-at-requires
     (expand-rule-returns t)
-    (expand-rule-mul-from t)
-    (expand-rule-element-copy-out-from t)
-    (expand-rule-size-requires t)
+    (λ c. search needs)  -- expand-rule-mul-from
+    (λ c. search needs)  -- expand-rule-element-copy-out-from
+    (λ c κs. search needs)  -- expand-rule-size-requires
     (expand-rule-copy-requires t)
-    (expand-rule-same-length t)
+    (λ c. search needs)  -- expand-rule-same-length
     (expand-rule-returns-2 t)
-    (expand-rule-mul-wide t)
-    (expand-rule-element-copy-out-wide t)
-    (expand-rule-wide-requires t)
+    (λ c. search needs)  -- expand-rule-mul-wide
+    (λ c. search needs)  -- expand-rule-element-copy-out-wide
+    (λ c κs. search needs)  -- expand-rule-wide-requires
     (expand-rule-start-at-requires t)
-    (expand-rule-add-start-at t)
+    (λ c. search needs)  -- expand-rule-add-start-at
     (expand-rule-start-at-requires-2 t)
     (expand-rule-sub-expand-production t)
     (expand-rule-expand-production-requires t)
-    (expand-rule-mul-begun t)
+    (λ c. search needs)  -- expand-rule-mul-begun
     (expand-rule-element-write-begun t)
-    (expand-rule-same-length-2 t)
+    (λ c. search needs)  -- expand-rule-same-length-2
     (expand-rule-returns-3 t)

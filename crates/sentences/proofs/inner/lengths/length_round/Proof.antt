@@ -11,29 +11,14 @@ Inv-loop rules owners starts symbols costs choice down lengths₀ n changed₀ i
 abbrev μ-loop : tie.MeasureT-loop
 μ-loop rules owners starts symbols costs choice down lengths₀ n changed₀ i₀ lengths changed i = n - i
 
-wide-requires : tie.Need-wide-requires Inv-loop μ-loop
-wide-requires c κs = search needs
-
 loop-holds : tie.Need-loop-holds Inv-loop μ-loop
 loop-holds c = let s = c .before .before .before .before .before .before in (search needs, length-begin _ _ _ (s .pre) (s .args .down))
-
-turn-at-requires : tie.Need-turn-at-requires Inv-loop μ-loop
-turn-at-requires c κs = search needs
 
 length-step-requires : tie.Need-length-step-requires Inv-loop μ-loop
 length-step-requires c κs = let t = c .before in let l = t .before .before in length-ready _ _ _ (l .before .before .before .before .before .before .before .pre) _ _ (l .before .wide .ensures .0) _ _ _ (l .loop .inv .1) _ (t .before .loop-test .taken) (t .turn-at .ensures)
 
-add-i : tie.Need-add-i Inv-loop μ-loop
-add-i c = search needs
-
-loop-less : tie.Need-loop-less Inv-loop μ-loop
-loop-less c = search needs
-
 loop-again : tie.Need-loop-again Inv-loop μ-loop
 loop-again c = let x = c .before .before in let t = x .before .before in let l = t .before .before in (search needs, length-on _ _ _ (l .before .before .before .before .before .before .before .pre) _ _ (l .before .wide .ensures .0) _ _ _ (l .loop .inv .1) _ _ _ (t .before .loop-test .taken) (t .turn-at .ensures) (x .length-step .ensures))
-
-same-length : tie.Need-same-length Inv-loop μ-loop
-same-length c = search needs
 
 returns : tie.Need-returns Inv-loop μ-loop
 returns c = let l = c .before in length-end _ _ _ (l .before .before .before .before .before .before .before .pre) _ _ (l .before .wide .ensures .0) _ _ _ (l .loop .inv .1) (l .loop .inv .0) (c .loop-test .left)
@@ -44,12 +29,12 @@ length-round-spec =
     (tie.spec
     Inv-loop
     μ-loop
-    wide-requires
+    (λ c κs. search needs)  -- wide-requires
     loop-holds
-    turn-at-requires
+    (λ c κs. search needs)  -- turn-at-requires
     length-step-requires
-    add-i
-    loop-less
+    (λ c. search needs)  -- add-i
+    (λ c. search needs)  -- loop-less
     loop-again
-    same-length
+    (λ c. search needs)  -- same-length
     returns)

@@ -9,9 +9,6 @@ Inv-loop rules owners starts symbols costs choice lengths₀ down₀ changed₀ 
 abbrev μ-loop : tie.MeasureT-loop
 μ-loop rules owners starts symbols costs choice lengths₀ down₀ changed₀ lengths down changed = lengthLeft rules lengths changed
 
-loop-holds : tie.Need-loop-holds Inv-loop μ-loop
-loop-holds c = length-starts _ _ _ (c .before .before .before .before .before .pre)
-
 length-round-requires : tie.Need-length-round-requires Inv-loop μ-loop
 length-round-requires c κs = let l = c .before .before in length-begun _ _ _ (l .before .before .before .before .before .before .pre) _ _ (l .loop .inv)
 
@@ -20,9 +17,6 @@ loop-less c = let x = c .before .before in let i = x .before .before in let l = 
 
 loop-again : tie.Need-loop-again Inv-loop μ-loop
 loop-again c = let x = c .before .before in let l = x .before .before .before in length-again _ _ _ (l .before .before .before .before .before .before .pre) _ _ (l .loop .inv) _ _ _ (x .length-round .ensures)
-
-same-length : tie.Need-same-length Inv-loop μ-loop
-same-length c = c .before .loop .inv .keeps
 
 returns : tie.Need-returns Inv-loop μ-loop
 returns c = let l = c .before in length-done _ _ _ (l .before .before .before .before .before .before .pre) _ _ (l .loop .inv) (c .loop-test .left)
@@ -33,9 +27,9 @@ length-settle-spec =
     (tie.spec
     Inv-loop
     μ-loop
-    loop-holds
+    (λ c. length-starts _ _ _ (c .before .before .before .before .before .pre))  -- loop-holds
     length-round-requires
     loop-less
     loop-again
-    same-length
+    (λ c. c .before .loop .inv .keeps)  -- same-length
     returns)

@@ -41,6 +41,7 @@ Seen (follow read) = Table
 Seen productive = Row
 Seen cost = Costs
 
+-- the lent words as the table of their kind
 abbrev pub kindView : (k : Kind) → Flat → Lent → Seen k
 kindView first g l = marksOf (g .rules) (length (g .costs)) l
 kindView (follow read) g l = tableOf (g .rules) (length (g .costs)) (l .first)
@@ -54,6 +55,7 @@ makes (follow read) g = visitOf g read
 makes productive g = productiveVisit (denoted g)
 makes cost g = costVisit (denoted g) (price g)
 
+-- what a step leaves as it was: the spare bits, COST's length, the row beside the table
 abbrev pub Keeps : Kind → Flat → Lent → Lent → Type 0
 Keeps first g = FirstSpared (g .rules) (length (g .costs))
 Keeps (follow read) g = Beside (FollowSpared (g .rules) (length (g .costs)))
@@ -92,12 +94,14 @@ Served cost g p s = Unit {0}
 abbrev pub Quiet : (k : Kind) → Flat → ℕ → Lent → Type 0
 Quiet k g p l = makes k g p (kindView k g l) ≡ kindView k g l
 
+-- COST's production is calm as long as no rule that was read changes, any other if it is quiet
 abbrev pub Calm : (k : Kind) → Flat → ℕ → List Bool → Lent → Type 0
 Calm first g p read l = Quiet first g p l
 Calm (follow from) g p read l = Quiet (follow from) g p l
 Calm productive g p read l = Quiet productive g p l
 Calm cost g p read l = CostCalm g p read (costsOf (l .first))
 
+-- lent words after production p's step, by kind
 abbrev pub KindBecame : Kind → Flat → ℕ → Lent → Lent → Type 0
 KindBecame first g p = FirstBecame g p
 KindBecame (follow read) g p = Beside (FollowBecame g read p)

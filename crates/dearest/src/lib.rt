@@ -1,5 +1,7 @@
 // The dearest sentences of a flat grammar: each rule's greatest cost, in lent numbers. The port of `rule_max_costs` of
 // grammar.rs, with true answers where the source settles too soon.
+#![tactic(auto)]
+
 ghost use Rattle.grammar.specs.Flat.{flat};
 ghost use Rattle.dearest.specs.Calls.{Fill};
 

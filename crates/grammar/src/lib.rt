@@ -1,4 +1,6 @@
 // The flat grammar: its check, and its productions by number. From grammar.rs and idxnewtype.rs.
+#![tactic(auto)]
+
 pub mod inner;
 
 ghost use Rattle.std.specs.Prelude.{◌≡◌, false, ◌&&◌, ◌||◌, ℕ, ◌+◌, ◌≤◌, ◌<◌, leb, ltb, length, get_or};

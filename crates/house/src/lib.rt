@@ -1,4 +1,6 @@
 // The house grammar, built in: its check, FIRST, costs and one cheapest row, without a grammar to give.
+#![tactic(auto)]
+
 ghost use Rattle.std.specs.Prelude.{◌≡◌};
 ghost use Rattle.grammar.specs.Outcome.{answers};
 ghost use Rattle.grammar.specs.Production.{checked_is};

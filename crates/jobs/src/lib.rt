@@ -1,4 +1,6 @@
 // Work in slices: a job fills one table by a few visits at a time.
+#![tactic(auto)]
+
 ghost use Rattle.grammar.specs.Flat.{flat};
 ghost use Rattle.jobs.specs.Kinds.{tables};
 ghost use Rattle.jobs.specs.Calls.{SliceOf};

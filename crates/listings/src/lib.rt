@@ -1,5 +1,7 @@
 // All cheapest sentences of a rule of a flat grammar: how many there are, and number k of them. The port of
 // `min_sentences` of grammar.rs, which builds the whole list.
+#![tactic(auto)]
+
 ghost use Rattle.grammar.specs.Flat.{flat};
 ghost use Rattle.listings.specs.Calls.{CountMinSentences, MinSentenceAt};
 

@@ -1,4 +1,6 @@
 // The one-token profile of a flat grammar: it passes, or has a least clash of two productions.
+#![tactic(auto)]
+
 ghost use Rattle.grammar.specs.Flat.{flat};
 ghost use Rattle.profiles.specs.Calls.{Profile};
 

@@ -6,6 +6,8 @@
 // where 1 asks for the rule's cost too, 2 for its cost and its sentence, and 3 for its sentence alone, which the Rust
 // may give where its costs never return. What is printed of them is held to the answers that the Rust gave, in the file
 // `stdout`; tools/replay.py made both files, and says how.
+#![tactic(auto)]
+
 ghost use Rattle.std.specs.Prelude.{◌≤◌, length};
 
 use grammar::{PIdx, RIdx, TIdx};

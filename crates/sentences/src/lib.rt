@@ -1,5 +1,7 @@
 // The cheapest sentence of a rule of a flat grammar: the port of `min_sentence` of grammar.rs, with bounded expansion
 // where the source has a stack.
+#![tactic(auto)]
+
 ghost use Rattle.grammar.specs.Flat.{flat};
 ghost use Rattle.sentences.specs.Query.{MinSentence};
 

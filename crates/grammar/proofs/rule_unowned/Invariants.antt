@@ -1,0 +1,12 @@
+use mathlib.Core.Bool.{not, false}
+use mathlib.Core.Path.{◌≡◌}
+use Prim.Native.Nat.{◌≤◌, ◌-◌}
+use Rattle.theory.specs.Below.{some}
+use Rattle.grammar.specs.Refusals.{owns}
+use Rattle.grammar.proofs.rule_unowned.Given as goal
+
+abbrev pub invariant-loop-r : goal.invariant-loop-r
+invariant-loop-r l = (l.r ≤ l.rules) × (some l.r (λ k. not (owns l.owners k)) ≡ false)
+
+abbrev pub decreases-loop-r : goal.decreases-loop-r
+decreases-loop-r l = l.rules - l.r

@@ -1,0 +1,14 @@
+use Rattle.grammar.specs.Refusals.{falls}
+use Rattle.grammar.proofs.Answer.{tests_none, tests_more, tests_all}
+use borrow.Author.Rules.{rules}
+use Rattle.grammar.proofs.starts_fall.Goals as goal
+
+pub loop-p-init : goal.loop-p-init
+loop-p-init c = search (rules, tests_none)
+
+pub loop-p-preserved : goal.loop-p-preserved
+loop-p-preserved c = search (rules, tests_more)
+
+pub returns : goal.returns
+unfolding falls
+returns c = search (rules, tests_all)

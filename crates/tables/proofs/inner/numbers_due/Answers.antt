@@ -1,0 +1,5 @@
+use Rattle.tables.proofs.Asking.{due_7}
+use Rattle.tables.proofs.inner.numbers_due.Goals as goal
+
+pub returns : goal.returns
+returns c = due_7 _ _ _ _ c.check-c.ensures _ _ c.numbers_wrong.ensures c.unless.ensures

@@ -1,0 +1,14 @@
+use Rattle.tables.specs.Sizes.{numbers_wrong}
+use Rattle.tables.proofs.Asking.{one_refused, one_leaves}
+use Rattle.costs.proofs.Calling.{cost_fillable}
+use borrow.Author.Rules.{rules}
+use Rattle.costs.proofs.fill.Goals as goal
+
+pub returns-in_default : goal.returns-in_default
+returns-in_default c = search (rules, one_refused numbers_wrong)
+
+pub cost_fill-requires : goal.cost_fill-requires
+cost_fill-requires c = search (rules, cost_fillable)
+
+pub returns : goal.returns
+returns c = search (rules, one_leaves numbers_wrong)

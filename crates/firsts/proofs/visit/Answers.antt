@@ -1,0 +1,12 @@
+use Rattle.firsts.proofs.Calling.{visit_refused, visit_ready, visit_does}
+use borrow.Author.Rules.{rules}
+use Rattle.firsts.proofs.visit.Goals as goal
+
+pub returns-in_default : goal.returns-in_default
+returns-in_default c = search (rules, visit_refused)
+
+pub step-requires : goal.step-requires
+step-requires c = visit_ready _ _ _ _ _ c.wide-p.ensures.0 _ c.due-c.ensures _ c.unless-d.ensures c.in-Well.is (λ i. (c.slice_known-1.given i).fits) (λ i. (c.slice_known-2-1.given i).fits)
+
+pub returns : goal.returns
+returns c = search (rules, visit_does)

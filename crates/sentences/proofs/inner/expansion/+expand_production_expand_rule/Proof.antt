@@ -107,13 +107,13 @@ expand-rule-sub-expand-production : (t : ℕ) → expand-rule-lts.Need-overflow-
 expand-rule-sub-expand-production t c = let w = c.before.before in let s = w.before.before.before.before.before.before.before.before.before.before.before.before in rule_level _ _ _ _ _ _ _ _ s.requires.1
 
 expand-rule-expand-production-requires : (t : ℕ) → expand-rule-lts.Need-expand-production-requires (rule-calls t) (expand-rule-at t) expand-rule.Post
-expand-rule-expand-production-requires t c κs = let y = c.before.before in let z = y.before in let w = z.before in let s = w.before.before.before.before.before.before.before.before.before.before.before.before in (omega (arith, s.requires.0, rule_level _ _ _ _ _ _ _ _ s.requires.1), rule_production _ _ _ _ _ _ _ _ s.requires.1 _ w.wide.ensures.0 _ _ z.start-at.ensures.0 y.start-at2.ensures.0)
+expand-rule-expand-production-requires t c κs = let y = c.before.before in let z = y.before in let w = z.before in let s = w.before.before.before.before.before.before.before.before.before.before.before.before in (omega (arith, s.requires.0, rule_level _ _ _ _ _ _ _ _ s.requires.1), rule_production _ _ _ _ _ _ _ _ s.requires.1 _ w.wide.ensures.0 _ _ z.start_at.ensures.0 y.start-at2.ensures.0)
 
 expand-rule-element-write-begun : (t : ℕ) → expand-rule-lts.Need-element-write-begun (rule-calls t) (expand-rule-at t) expand-rule.Post
 expand-rule-element-write-begun t c = let w = c.before.before.before.before.before.before.before in let s = w.before.before.before.before.before.before.before.before.before.before.before.before in rule_choice _ _ _ _ _ _ _ _ s.requires.1
 
 expand-rule-returns-3 : (t : ℕ) → expand-rule-lts.Need-returns-3 (rule-calls t) (expand-rule-at t) expand-rule.Post
-expand-rule-returns-3 t c = let x = c.before.before in let y = x.before.before.before in let z = y.before in let w = z.before in let s = w.before.before.before.before.before.before.before.before.before.before.before.before in rule_wrote _ _ _ _ _ _ _ _ s.requires.1 _ w.wide.ensures.0 _ _ z.start-at.ensures.0 y.start-at2.ensures.0 _ _ _ x.expand-production.ensures
+expand-rule-returns-3 t c = let x = c.before.before in let y = x.before.before.before in let z = y.before in let w = z.before in let s = w.before.before.before.before.before.before.before.before.before.before.before.before in rule_wrote _ _ _ _ _ _ _ _ s.requires.1 _ w.wide.ensures.0 _ _ z.start_at.ensures.0 y.start-at2.ensures.0 _ _ _ x.expand-production.ensures
 
 pub +expand-production-expand-rule-spec : {M : Type 1} → statement M
 +expand-production-expand-rule-spec =

@@ -1,0 +1,4 @@
+use Rattle.lines.proofs.inner.+number.Given as goal
+
+abbrev pub decreases-number : goal.decreases-number
+decreases-number l = l.n

@@ -1,0 +1,13 @@
+-- The rule's productions from p up to q do not cost what the rule does.
+use lib.ListN.{length}
+use Prim.Native.Nat.{◌-◌}
+use Rattle.grammar.specs.Flat.{flat}
+use Rattle.sentences.proofs.Choosing.{Rising}
+use borrow.Author.Rules.{rules}
+use Rattle.sentences.proofs.inner.choices.cheapest_from.Given as goal
+
+abbrev pub invariant-loop-q : goal.invariant-loop-q
+invariant-loop-q l = Rising (flat l.rules l.owners l.starts l.symbols l.costs) l.cost l.r l.p l.q
+
+abbrev pub decreases-loop-q : goal.decreases-loop-q
+decreases-loop-q l = length l.owners - l.q

@@ -23,7 +23,7 @@ pub const COST: u16 = 4;
 
 // What a step came to: whether it changed its table, and whether that was so early in the round that no further one is
 // needed for it.
-#[derive(Drop)]
+#[derive(Clone, Copy)]
 pub struct Moved {
     pub changed: bool,
     pub early: bool,

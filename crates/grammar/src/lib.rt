@@ -12,24 +12,24 @@ ghost use Rattle.grammar.specs.Production.{checked_is, length_is, check_of, prod
 use crate::inner::{sizes_out, start_at, wide};
 
 // A rule's, a production's and a token's number, as the source keeps them apart.
-#[derive(Drop)]
+#[derive(Clone, Copy)]
 pub struct RIdx(pub u16);
 
-#[derive(Drop)]
+#[derive(Clone, Copy)]
 pub struct PIdx(pub u16);
 
-#[derive(Drop)]
+#[derive(Clone, Copy)]
 pub struct TIdx(pub u16);
 
 // What `check` answers: well-formed, or the lowest refusal due.
-#[derive(Drop)]
+#[derive(Clone, Copy)]
 pub enum Checked {
     Well,
     Refused(u16),
 }
 
 // What `production_len` answers.
-#[derive(Drop)]
+#[derive(Clone, Copy)]
 pub enum Length {
     Is(usize),
     Refused(u16),

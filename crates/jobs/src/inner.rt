@@ -48,7 +48,7 @@ fn step(
 }
 
 // Where a job stands.
-#[derive(Drop)]
+#[derive(Clone, Copy)]
 pub struct Stand {
     pub next: u16,
     pub changed: bool,
@@ -76,7 +76,7 @@ fn moved(prods: usize, next: u16, changed: bool, got: bool) -> Stand
 }
 
 // Where the job stands after its visits, and how many they were.
-#[derive(Drop)]
+#[derive(Clone, Copy)]
 pub struct Worked {
     pub next: u16,
     pub changed: bool,
@@ -175,7 +175,7 @@ fn wrong(
 }
 
 // What a slice leaves of the job, and what it answers.
-#[derive(Drop)]
+#[derive(Clone, Copy)]
 pub struct Left {
     pub job: Job,
     pub said: Sliced,

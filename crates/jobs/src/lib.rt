@@ -26,7 +26,7 @@ pub const JOB_COST: u16 = 4;
 
 // A job: its table, by the kinds above, the next production, whether this round changed anything, and whether it is
 // done.
-#[derive(Drop)]
+#[derive(Clone, Copy)]
 pub struct Job {
     pub kind: u16,
     pub next: PIdx,
@@ -35,7 +35,7 @@ pub struct Job {
 }
 
 // What a slice answers: the number of visits made.
-#[derive(Drop)]
+#[derive(Clone, Copy)]
 pub enum Sliced {
     Made(u32),
     Refused(u16),

@@ -21,7 +21,7 @@ pub const COUNT_MANY: u32 = 65536;
 pub const COUNT_NONE: u32 = 65537;
 
 // What the count of all cheapest sentences answers.
-#[derive(Drop)]
+#[derive(Clone, Copy)]
 pub enum Counted {
     Are(u32),
     Refused(u16),

@@ -2,7 +2,7 @@
 ghost use Rattle.odometer.specs.Turning.{Turnable, Turns};
 
 // How turning ended: the choice is shown, or the first place spilled and so many turns are left.
-#[derive(Drop)]
+#[derive(Clone, Copy)]
 pub enum Turned {
     At,
     Past(u32),

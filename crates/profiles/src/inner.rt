@@ -84,7 +84,7 @@ fn starts_row(
 }
 
 // The least rule that has a clash, and its lowest production that has one; rule R where there is none.
-#[derive(Drop)]
+#[derive(Clone, Copy)]
 pub struct Low {
     pub rule: usize,
     pub lower: usize,

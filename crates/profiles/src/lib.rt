@@ -10,7 +10,7 @@ use grammar::{Checked, PIdx, RIdx, TIdx};
 pub mod inner;
 
 // Two productions of a rule and a token that both may start with; token T where both can vanish and share none.
-#[derive(Drop)]
+#[derive(Clone, Copy)]
 pub struct Clash {
     pub rule: RIdx,
     pub lower: PIdx,
@@ -20,7 +20,7 @@ pub struct Clash {
 
 // What the profile answers: the grammar passes, or its least clash by rule, lower production, higher
 // production, token.
-#[derive(Drop)]
+#[derive(Clone, Copy)]
 pub enum Verdict {
     Passes,
     Clashes(Clash),

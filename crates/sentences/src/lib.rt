@@ -21,7 +21,7 @@ pub const LENGTH_LONG: u32 = 65536;
 pub const LENGTH_NONE: u32 = 65537;
 
 // What the sentence call answers.
-#[derive(Drop)]
+#[derive(Clone, Copy)]
 pub enum Length {
     Is(u32),
     Refused(u16),

@@ -8,7 +8,7 @@ use grammar::inner::{prod_at, start_at, wide};
 use tables::inner::words_for;
 
 // What a walk found: whether a mark is new, and whether it passed the end.
-#[derive(Drop)]
+#[derive(Clone, Copy)]
 pub struct Walked {
     pub new: bool,
     pub past: bool,

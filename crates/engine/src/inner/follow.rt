@@ -56,7 +56,7 @@ fn pass(
 }
 
 // What a symbol's turn found: whether a mark is new, and whether all from it on vanishes.
-#[derive(Drop)]
+#[derive(Clone, Copy)]
 pub struct Passed {
     pub new: bool,
     pub null: bool,

@@ -18,10 +18,10 @@ use Rattle.firsts.specs.Calls.{lent_wrong}
 use Rattle.engine.specs.First.{lent}
 use Rattle.costs.specs.Query.{cost_is}
 use Rattle.costs.specs.declared.Cost.{Cost as CostAnswer}
-use Rattle.sentences.specs.Query.{length_is}
+use Rattle.sentences.specs.Query.{length_is, Lends}
 use Rattle.sentences.specs.declared.Length.{Length as LengthAnswer}
 use Rattle.house.specs.Table.{house, cheapest_row}
-use Rattle.house.specs.Calls.{FillFirst, is_first_of, is_empty_of, FillCost, MinCost, CheapestRow, Gives, answer, refusal}
+use Rattle.house.specs.Calls.{FillFirst, is_first_of, is_empty_of, FillCost, MinCost, RowWritten, CheapestRow, Gives, answer, refusal}
 
 -- one test, and what comes after it
 gives_more : {A : Type 0} {ns : List ℕ} (m : ℕ) {x : Outcome A} → Gives ns x → Gives (m ∷ ns) x
@@ -53,8 +53,12 @@ fill_cost_gives cost r x = call_gives (test (numbers_wrong house.rules cost) 7 (
 pub min_cost_gives : (rule : ℕ) (cost : List ℕ) (r : CostAnswer) {c : List ℕ} → MinCost rule cost r c → Gives (7 ∷ 9 ∷ []) (cost_is r)
 min_cost_gives rule cost r x = call_gives (test (numbers_wrong house.rules cost) 7 (test (leb house.rules rule) 9 (answer tt))) (λ d. subst (Gives (7 ∷ 9 ∷ [])) (sym d.answer) (answer d.least)) x
 
-pub cheapest_row_gives : (cost lengths out : List ℕ) (r : LengthAnswer) {c l o : List ℕ} → CheapestRow cost lengths out r c l o → Gives (7 ∷ 15 ∷ []) (length_is r)
-cheapest_row_gives cost lengths out r x = call_gives (test (numbers_wrong house.rules cost || numbers_wrong house.rules lengths) 7 (answer tt)) (λ d. elim (dec_lt (length out) (length cheapest_row)) [
+-- the row's answer, or 15
+row_gives : (out : List ℕ) (said : Outcome ℕ) (after : Lends) → RowWritten out said after → Gives (7 ∷ 15 ∷ []) said
+row_gives out said after d = elim (dec_lt (length out) (length cheapest_row)) [
   | yes q ↦ subst (Gives (7 ∷ 15 ∷ [])) (sym (d.short q).number) (refusal (Memᴰ.tail (Memᴰ.head refl)))
   | no q ↦ let le : length cheapest_row ≤ length out = omega arith in subst (Gives (7 ∷ 15 ∷ [])) (sym (d.is le).number) (answer (length cheapest_row))
-]) x
+]
+
+pub cheapest_row_gives : (cost lengths out : List ℕ) (r : LengthAnswer) {c l o : List ℕ} → CheapestRow cost lengths out r c l o → Gives (7 ∷ 15 ∷ []) (length_is r)
+cheapest_row_gives cost lengths out r x = call_gives {Done = RowWritten out} (test (numbers_wrong house.rules cost || numbers_wrong house.rules lengths) 7 (answer tt)) (row_gives out _ _) x

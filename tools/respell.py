@@ -27,6 +27,7 @@ DECLARED = re.compile(r'(?m)^ *(?:(?:abbrev|unfoldable|pub) )*([^\s(){}.;,@"«»
 FUNCTION = re.compile(r"/proofs/.*/[^/]*\.antt$")
 GHOST_USE = re.compile(r"ghost\s+use\b[^;]*;")
 CLAUSE = re.compile(r"(?:requires|ensures)\s*\*?\s*(?:\w+\s*)?\{|ghost\s*(?:\w+\s*(?::\s*|=\s*))?\{")
+SPOKEN = re.compile(r"--[^\n]*|(?:(?!--)[\s\S])+")
 SPAN = re.compile(r"(`+)(?:[^\n]|\n(?!\s*\n))*?\1")
 
 
@@ -103,6 +104,13 @@ def stretches(path, text):
     return sorted(found)
 
 
+def prose(text, names):
+    """A comment: a word with a dash is a name only in a code span."""
+    turned = lambda m: names.get(m[0], m[0])
+    spans = re.split(r"(`[^`]*`)", text)
+    return "".join(WORD.sub(turned, s) if s.startswith("`") else WORD.sub(lambda m: m[0] if "-" in m[0] else turned(m), s) for s in spans)
+
+
 def turn(path, text, names):
     # in a function's folder a name behind a dot is mostly one that the check makes
     keep = FUNCTION.search(path)
@@ -112,7 +120,7 @@ def turn(path, text, names):
         if a < at:
             continue
         out.append(text[at:a])
-        out.append(WORD.sub(word, text[a:e]))
+        out.append(SPOKEN.sub(lambda m: prose(m[0], names) if m[0].startswith("--") else WORD.sub(word, m[0]), text[a:e]))
         at = e
     out.append(text[at:])
     text = "".join(out)

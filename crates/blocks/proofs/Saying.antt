@@ -47,7 +47,7 @@ module _ {A : Type 0} (x : Outcome A) where
       (goes_on (blocks_wrong file (counts_of file)) 23 _ _
       (goes_on (token_free (counts_of file).version (grammar_of file (counts_of file)).costs) 25 _ _ (λ e. refl))))))
 
--- R, T, P, N and the version are answered: they are within the limits, and the fronts of the lists hold the file's well_formed_law grammar
+-- R, T, P, N and the version are answered: they are within the limits, and the fronts of the lists hold the file's well-formed grammar
 pub record Held (file : List ℕ) (c : Counts) (owners starts symbols costs : List ℕ) : Type 0 where
   pub limited : Limited c
   pub well : WellFormed (fronts c owners starts symbols costs)

@@ -21,7 +21,7 @@ use Rattle.grammar.proofs.Outcomes.{not_both, refused_one, answers_one}
 use Rattle.grammar.proofs.Well.{well}
 use Rattle.boltmarrow.specs.Exports.{refusal_of, stretch_at, stretch_of}
 
--- a length was answered: the grammar is well_formed_law and the number is a production's
+-- a length was answered: the grammar is well-formed and the number is a production's
 pub record Found (g : Flat) (p n : ℕ) : Type 0 where
   pub well_formed_law : WellFormed g
   pub is_prod : p < length g.owners

@@ -115,7 +115,7 @@ looked (judged g v) = same_verdict (verdict_by (denoted g) (first_filled (denote
 looked (source_never g) = so (never g) (λ u. true)
 looked (source_gives g r n w) = so (costs_given g) (λ c. eqb (c r) n && so (sentence_given g c r) (λ v. same_list v w))
 
--- the grammar is well_formed_law, and what its tables hold is what is claimed
+-- the grammar is well-formed, and what its tables hold is what is claimed
 abbrev pub test : Claim → Bool
 test c = is_answer (check_of (grammar_of c)) && looked c
 

@@ -85,7 +85,7 @@ Says (source_never g) = (c : Costs) → Returns (denoted g) (price g) start c �
 -- the Rust's `rule_min_costs` returns, with n for r, and its `min_sentence` of r returns w
 Says (source_gives g r n w) = (c : Costs) × Returns (denoted g) (price g) start c × (c r ≡ n) × Sentence.Returns (denoted g) (price g) c r w
 
--- what each means: its grammar is well_formed_law, and what it says holds
+-- what each means: its grammar is well-formed, and what it says holds
 abbrev pub Means : Claim → Type 0
 Means c = WellFormed (grammar_of c) × Says c
 

@@ -4,7 +4,7 @@ use Rattle.theory.specs.Dearest.{Dearest}
 use Rattle.grammar.specs.Flat.{Flat, at, denoted, price}
 use Rattle.grammar.specs.Well.{WellFormed}
 
--- what a fill asks: a well_formed_law grammar, costs that are bytes, and a table of its exact length
+-- what a fill asks: a well-formed grammar, costs that are bytes, and a table of its exact length
 pub record DearestFillable (g : Flat) (dearest : List ℕ) : Type 0 where
   pub well : WellFormed g
   pub byte : (t : ℕ) → price g t ≤ 255

@@ -7,7 +7,7 @@ use Rattle.grammar.specs.Flat.{Flat, at, denoted, price}
 use Rattle.grammar.specs.Well.{WellFormed}
 use Rattle.engine.specs.Cost.{Long}
 
--- what a round asks: a well_formed_law grammar, costs that are bytes, and a number of at most no bound for each rule
+-- what a round asks: a well-formed grammar, costs that are bytes, and a number of at most no bound for each rule
 pub record DearestBegun (g : Flat) (dearest : List ℕ) : Type 0 where
   pub well : WellFormed g
   pub byte : (t : ℕ) → price g t ≤ 255

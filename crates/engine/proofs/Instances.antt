@@ -22,8 +22,8 @@ use Rattle.engine.specs.Follow.{table_of, reached_of}
 use Rattle.engine.specs.Productive.{row_of}
 use Rattle.engine.specs.Cost.{costs_of}
 use Rattle.engine.specs.Kinds.{Kind, first, follow, productive, cost, Beside, Seen, kind_view, makes, Keeps, KindHeld, Fit, Served, Quiet, Calm, KindBecame, Begun}
-use Rattle.engine.proofs.FirstMoving.{begun_inv as first-inv, inv_no_eof, first_long, empty_long, stepping as firstStepping}
-use Rattle.engine.proofs.FollowMoving.{words_in, long as follow_long, stepping as followStepping}
+use Rattle.engine.proofs.FirstMoving.{begun_inv as first_inv, inv_no_eof, first_long, empty_long, stepping as first_stepping}
+use Rattle.engine.proofs.FollowMoving.{words_in, long as follow_long, stepping as follow_stepping}
 use Rattle.engine.proofs.CostMoving.{row_column, row_long, row_stepping, costs_fit, cost_stepping}
 use Rattle.engine.proofs.Plain.{visit_quiet, quiet_under, visit_under}
 use Rattle.engine.proofs.Feeding.{fed_under, visit_feeds}
@@ -55,13 +55,13 @@ module _ {S : Type 0} {step : ℕ → S → S} {see : List ℕ → S} {Kept : Li
   alone s = record { visits = s.visits; valid = s.valid; ran = s.ran; keeps = s.keeps.table; rest = s.rest }
 
 abbrev pub stepping : (k : Kind) (g : Flat) → WellFormed g → Stepping (makes k g) (kind_view k g) (Keeps k g) (length g.owners) (KindHeld k g) (KindBecame k g)
-stepping first g w = firstStepping g w
-stepping (follow read) g w = beside (followStepping g w read)
+stepping first g w = first_stepping g w
+stepping (follow read) g w = beside (follow_stepping g w read)
 stepping productive g w = beside (row_stepping g w)
 stepping cost g w = beside (cost_stepping g w)
 
 pub begun_inv : (k : Kind) (g : Flat) (l : Lent) (b : Begun k g l) → (stepping k g b.well).filling.Inv (kind_view k g l)
-begun_inv first g l b = first-inv g b.well l b.fit
+begun_inv first g l b = first_inv g b.well l b.fit
 begun_inv (follow read) g l b = words_in g b.well read l.first
 begun_inv productive g l b = row_column g.rules l.first
 begun_inv cost g l b = costs_fit g l.first b.held b.fit

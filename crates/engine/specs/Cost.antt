@@ -32,7 +32,7 @@ pub record Pricing (symbols costs : List ℕ) (a e : ℕ) (cost : List ℕ) : Ty
   pub fits : e ≤ length symbols
   pub symbol : (k : ℕ) → k < length symbols → SymbolPriced costs cost (at symbols k)
 
--- what a step of COST asks: a well_formed_law grammar, one of its productions, a number for each rule
+-- what a step of COST asks: a well-formed grammar, one of its productions, a number for each rule
 pub record CostReady (g : Flat) (p : ℕ) (cost : List ℕ) : Type 0 where
   pub well : WellFormed g
   pub is_prod : p < length g.owners

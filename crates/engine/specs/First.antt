@@ -45,7 +45,7 @@ pub record Walks (R T : ℕ) (symbols : List ℕ) (a e o : ℕ) (l : Lent) (ws :
   pub raised : Raised T (words T) ws to o (first_of (marks_of R T l) (form symbols a e)) new
   pub passed : past ≡ nullable (marks_of R T l).empty (form symbols a e)
 
--- what a step asks: a well_formed_law grammar, one of its productions, tables of their lengths
+-- what a step asks: a well-formed grammar, one of its productions, tables of their lengths
 pub record Ready (g : Flat) (p : ℕ) (l : Lent) : Type 0 where
   pub well : WellFormed g
   pub is_prod : p < length g.owners

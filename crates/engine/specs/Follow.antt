@@ -110,7 +110,7 @@ pub record Walkable (R T : ℕ) (symbols : List ℕ) (a e o : ℕ) (read : First
 abbrev pub visit_of : Flat → Reads → ℕ → Table → Table
 visit_of g read = follow_visit (denoted g) (marks_of g.rules (length g.costs) read.firsts) (reached_of g.rules read.reached)
 
--- what a step asks: a well_formed_law grammar, one of its productions, tables of their lengths
+-- what a step asks: a well-formed grammar, one of its productions, tables of their lengths
 pub record Ready (g : Flat) (p : ℕ) (read : Reads) (follow : List ℕ) : Type 0 where
   pub first : FirstReady g p read.firsts
   pub reached : length read.reached ≡ words g.rules

@@ -30,7 +30,7 @@ pub record Marking (R T : ℕ) (symbols : List ℕ) (a e : ℕ) (row : List ℕ)
   pub symbol : (k : ℕ) → k < length symbols → SymbolFits R T (at symbols k)
   pub long : length row ≡ words R
 
--- what a step of PRODUCTIVE asks: a well_formed_law grammar, one of its productions, a row of its length
+-- what a step of PRODUCTIVE asks: a well-formed grammar, one of its productions, a row of its length
 pub record RowReady (g : Flat) (p : ℕ) (row : List ℕ) : Type 0 where
   pub well : WellFormed g
   pub is_prod : p < length g.owners

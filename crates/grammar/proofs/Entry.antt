@@ -57,7 +57,7 @@ module _ (g : Flat) (ds : List (Bool × ℕ)) where
       go (answers tt) q = ap (λ z. or_due z b n) (after_well g Well _ (sym q) refl) ∙ ends_more b n ds ∙ sym (after_well g Well _ (sym q) refl)
       go (refused m) q = ap (λ z. or_due z b n) (after_refused g (Refused m) _ m (sym q) refl) ∙ sym (after_refused g (Refused m) _ m (sym q) refl)
 
-  -- where none is due: the grammar is well_formed_law, and none of the call's own is
+  -- where none is due: the grammar is well-formed, and none of the call's own is
   pub none_due : unless_due g (ends ds (answers (tt {0}))) ≡ answers tt → WellFormed g × NoneOf ds
   none_due d = go (check_of g) refl
     where

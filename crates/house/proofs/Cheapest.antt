@@ -16,7 +16,7 @@ use Rattle.engine.specs.Cost.{costs_of}
 use Rattle.sentences.specs.Lent.{choices_of}
 use Rattle.house.specs.Table.{owners, starts, symbols, costs, house, cheapest_row}
 use Rattle.house.proofs.Formed.{formed}
-use Rattle.house.proofs.Certified.{certified, picks, priced as is-priced, same_costs, grounded as is-grounded}
+use Rattle.house.proofs.Certified.{certified, picks, priced as is_priced, same_costs, grounded as is_grounded}
 
 -- the least cost of each rule's sentences, and its first choice
 unfoldable least : List ℕ
@@ -34,11 +34,11 @@ tested = refl
 module _ (t : Costs) (x : CostExact (denoted house) (price house) t) where
   -- so every rule has a sentence that costs at most 65535: 12 and 13 never occur
   pub priced : (r : ℕ) → r < house.rules → t r ≤ 65535
-  priced r l = subst (λ (z : Costs). z r ≤ 65535) (same_costs house formed least choice tested t x) (is-priced house formed least choice tested r l)
+  priced r l = subst (λ (z : Costs). z r ≤ 65535) (same_costs house formed least choice tested t x) (is_priced house formed least choice tested r l)
 
   -- and no circular choice: 14 never occurs
   pub grounded : (r : ℕ) → r < house.rules → Grounded (denoted house) (price house) t (rul r ∷ [])
-  grounded = is-grounded house formed least choice tested t x
+  grounded = is_grounded house formed least choice tested t x
 
   -- the start's sentence is the row
   pub row_is : Expands (denoted house) (price house) t (rul 0 ∷ []) cheapest_row

@@ -13,16 +13,16 @@ use Rattle.grammar.specs.Flat.{Flat, denoted, price}
 use Rattle.grammar.specs.Well.{WellFormed}
 use Rattle.grammar.proofs.Denoted.{proper}
 use Rattle.engine.specs.First.{Lent as Firsts, lent as firsts}
-use Rattle.engine.proofs.FirstMoving.{stepping as firstStepping, begun_inv as first-inv}
-use Rattle.engine.proofs.FollowMoving.{words_in, stepping as followStepping}
+use Rattle.engine.proofs.FirstMoving.{stepping as first_stepping, begun_inv as first_inv}
+use Rattle.engine.proofs.FollowMoving.{words_in, stepping as follow_stepping}
 use Rattle.engine.specs.Cost.{costs_of}
 use Rattle.engine.proofs.CostMoving.{row_column, row_stepping, costs_fit, cost_stepping}
-use Rattle.firsts.specs.Calls.{zeros as firstZeros}
-use Rattle.firsts.proofs.Calling.{zeros_held as first-held, zeros_marks, zeros_begun, settled_defined}
+use Rattle.firsts.specs.Calls.{zeros as first_zeros}
+use Rattle.firsts.proofs.Calling.{zeros_held as first_held, zeros_marks, zeros_begun, settled_defined}
 use Rattle.follows.specs.Calls.{begun}
 use Rattle.follows.proofs.Calling.{begun_held, begun_table, any_order, follow_defined}
 use Rattle.tables.specs.Sizes.{words}
-use Rattle.costs.specs.Calls.{zeros as rowZeros, unknown}
+use Rattle.costs.specs.Calls.{zeros as row_zeros, unknown}
 use Rattle.costs.proofs.Filling.{zeros_row, zeros_held as row_held, unknown_costs, unknown_long, row_fill_defined, cost_fill_defined}
 use Rattle.jobs.specs.Kinds.{Tables, tables, Kind, first, follow, productive, cost, kind_of, Visit}
 use Rattle.jobs.specs.declared.Job.{Job}
@@ -63,7 +63,7 @@ module _ (g : Flat) (w : WellFormed g) where
   some : 0 < length g.owners
   some = omega (arith, w.sizes.prods_low)
 
-  zeros_long : (g : Flat) → length (rowZeros g) ≡ words g.rules
+  zeros_long : (g : Flat) → length (row_zeros g) ≡ words g.rules
   zeros_long g = length-replicate {A = ℕ} (words g.rules) 0
 
   unknown_fits : Fits g.rules (costs_of (unknown g))
@@ -72,15 +72,15 @@ module _ (g : Flat) (w : WellFormed g) where
   -- what slices of each kind come to, however the visits are divided into slices
   pub kind_comes : (k : Kind) (t : Tables) → Cleared k g t → {n : ℕ} {i : Progress} {d : Tables} → Slices (Visit k g) (length g.owners) n fresh t i d → Comes k g n i d
   kind_comes first t c {d = d} s =
-      let x = part_comes get_first put_first lens_first (firstStepping g w) (first_any_order (denoted g) (proper g w)) t (firstZeros g) c (first-held g) (zeros_marks g) (first-inv g w (firstZeros g) (zeros_begun g w).fit) some s in
+      let x = part_comes get_first put_first lens_first (first_stepping g w) (first_any_order (denoted g) (proper g w)) t (first_zeros g) c (first_held g) (zeros_marks g) (first_inv g w (first_zeros g) (zeros_begun g w).fit) some s in
       record { left = λ e. settled_defined g w (get_first d) (x.settles e); ends = x.ends; always = x.holds }
   kind_comes (follow read) t c {d = d} s =
-      let x = part_comes (λ t. t.follow) put_follow lens_follow (followStepping g w read) (any_order g w read c.0) t (begun g) c.1 (begun_held g w) (begun_table g w) (words_in g w read (begun g)) some s in
+      let x = part_comes (λ t. t.follow) put_follow lens_follow (follow_stepping g w read) (any_order g w read c.0) t (begun g) c.1 (begun_held g w) (begun_table g w) (words_in g w read (begun g)) some s in
       record { left = λ e. follow_defined g w read c.0 d.follow (x.settles e); ends = x.ends; always = x.holds }
   kind_comes productive t c {d = d} s =
-      let x = part_comes (λ t. t.productive) put_productive lens_productive (row_stepping g w) (productive_any_order (denoted g) (proper g w)) t (rowZeros g) c (row_held g) (zeros_row g) (row_column g.rules (rowZeros g)) some s in
+      let x = part_comes (λ t. t.productive) put_productive lens_productive (row_stepping g w) (productive_any_order (denoted g) (proper g w)) t (row_zeros g) c (row_held g) (zeros_row g) (row_column g.rules (row_zeros g)) some s in
       record {
-        left = λ e. row_fill_defined g (rowZeros g) (record { well = w; long = zeros_long g }) (rowZeros g) (ap (λ z. replicate z 0) (sym (zeros_long g))) d.productive (x.settles e);
+        left = λ e. row_fill_defined g (row_zeros g) (record { well = w; long = zeros_long g }) (row_zeros g) (ap (λ z. replicate z 0) (sym (zeros_long g))) d.productive (x.settles e);
         ends = x.ends;
         always = x.holds;
       }

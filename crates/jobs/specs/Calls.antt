@@ -57,7 +57,7 @@ pub record Works (g : Flat) (n : ℕ) (j : Job) (t : Tables) (said : Outcome ℕ
 abbrev pub SliceOf : Flat → (n : ℕ) → Job → Tables → Sliced → Job → Tables → Type 0
 SliceOf g n j t r j' t' = Call (slice_due g j t) (Works g n j t) (lends j t) (sliced_is r) (lends j' t')
 
--- what the loop of visits asks: a well_formed_law grammar, a next production, the kind's tables of their lengths
+-- what the loop of visits asks: a well-formed grammar, a next production, the kind's tables of their lengths
 pub record Workable (k : Kind) (g : Flat) (next : ℕ) (t : Tables) : Type 0 where
   pub well : WellFormed g
   pub below : next < length g.owners

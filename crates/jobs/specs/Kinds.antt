@@ -74,7 +74,7 @@ Became cost g p a b = Made (CostBecame g p a.cost b.cost) b (tables a.first a.em
 abbrev pub Visit : Kind → Flat → ℕ → Tables → Bool → Tables → Type 0
 Visit k g p a x b = Stepped (Became k g p a) a x b
 
--- what a step asks: a well_formed_law grammar, one of its productions, the kind's tables of their lengths
+-- what a step asks: a well-formed grammar, one of its productions, the kind's tables of their lengths
 pub record Ready (k : Kind) (g : Flat) (p : ℕ) (t : Tables) : Type 0 where
   pub well : WellFormed g
   pub is_prod : p < length g.owners

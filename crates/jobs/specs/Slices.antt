@@ -8,9 +8,9 @@ use Rattle.engine.specs.First.{lent as firsts, marks_of}
 use Rattle.engine.specs.Follow.{table_of}
 use Rattle.engine.specs.Productive.{row_of}
 use Rattle.engine.specs.Cost.{costs_of}
-use Rattle.firsts.specs.Calls.{Defined as FirstDefined, zeros as firstZeros}
+use Rattle.firsts.specs.Calls.{Defined as FirstDefined, zeros as first_zeros}
 use Rattle.follows.specs.Calls.{Defined as FollowDefined, Finished, begun}
-use Rattle.costs.specs.Calls.{zeros as rowZeros, unknown}
+use Rattle.costs.specs.Calls.{zeros as row_zeros, unknown}
 use Rattle.costs.specs.Defined.{ProductiveDefined, CostDefined}
 use Rattle.jobs.specs.declared.Job.{Job}
 use Rattle.jobs.specs.declared.Sliced.{Sliced}
@@ -23,9 +23,9 @@ fresh_job kind = job_at kind fresh
 
 -- the kind's tables are cleared, and FOLLOW reads finished ones
 abbrev pub Cleared : Kind → Flat → Tables → Type 0
-Cleared first g t = firsts t.first t.empty ≡ firstZeros g
+Cleared first g t = firsts t.first t.empty ≡ first_zeros g
 Cleared (follow read) g t = Finished g read × (t.follow ≡ begun g)
-Cleared productive g t = t.productive ≡ rowZeros g
+Cleared productive g t = t.productive ≡ row_zeros g
 Cleared cost g t = t.cost ≡ unknown g
 
 -- the kind's tables are what its fill leaves

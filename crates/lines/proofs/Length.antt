@@ -99,7 +99,7 @@ line_long R T r l lr lt k =
       length-append (row_with e.first) (row_with e.follow),
     )
 
--- the line of a rule of a well_formed_law grammar
+-- the line of a rule of a well-formed grammar
 pub line_short : (g : Flat) → WellFormed g → (r : ℕ) → r < g.rules → (l : Tables) → length (line_of (entry_of g.rules (length g.costs) r l)) ≤ 3888
 line_short g w r k l = line_long g.rules (length g.costs) r l w.sizes.rules_high w.sizes.tokens_high k
 

@@ -1,7 +1,7 @@
 // Below the public calls: each appends its bytes from place `at` of a lent buffer on, and answers the place after them.
 ghost use Rattle.std.specs.Prelude.{◌≡◌, ◌∷◌, [], ◌≤◌, ◌<◌};
-ghost use Rattle.lines.specs.Text.{decimal, spaced, digit as digitOf};
-ghost use Rattle.lines.specs.Line.{flag as flagOf, price_of, priced, line_of};
+ghost use Rattle.lines.specs.Text.{decimal, spaced, digit as digit_of};
+ghost use Rattle.lines.specs.Line.{flag as flag_of, price_of, priced, line_of};
 ghost use Rattle.tables.specs.Append.{Appended};
 ghost use Rattle.lines.specs.Append.{Room, added, Row, row_of, front_of, row_with, sets_of, back_of};
 ghost use Rattle.lines.specs.Lent.{tables, tables_wrong, out_wrong, entry_of, Ready};
@@ -35,7 +35,7 @@ pub fn copy(text: &[u8], out: &mut [u8], at: usize) -> usize
 
 fn digit(n: usize) -> u8
     requires { n < 10 }
-    ensures { result ≡ digitOf n }
+    ensures { result ≡ digit_of n }
 {
     n as u8 + 48
 }
@@ -115,7 +115,7 @@ fn sets(
 }
 
 fn flag(on: bool) -> u8
-    ensures { result ≡ flagOf on }
+    ensures { result ≡ flag_of on }
 {
     if on {
         return b'1';

@@ -54,7 +54,7 @@ unless_due_done g x d = go (check_of g) refl
     go (answers tt) e = (e, sym (after_well g Well x (sym e) refl) ∙ d)
     go (refused n) e = absurd (not_both (sym d ∙ after_refused g (Not n) x n (sym e) refl))
 
--- a well_formed_law grammar, tables of their exact lengths, one of its rules
+-- a well-formed grammar, tables of their exact lengths, one of its rules
 pub record Entered (g : Flat) (rule cost lengths counts : ℕ) : Type 0 where
   pub well_formed : WellFormed g
   pub cost_long : cost ≡ g.rules

@@ -10,7 +10,7 @@ use Rattle.theory.specs.Definitions.{Productive}
 use Rattle.theory.specs.Visits.{Costs}
 use Rattle.theory.specs.Cheapest.{Circular}
 use Rattle.theory.specs.Listing.{listed, sentence_at}
-use Rattle.theory.specs.Counts.{Count, counted, many as more, none as no-count}
+use Rattle.theory.specs.Counts.{Count, counted, many as more, none as no_count}
 use Rattle.theory.proofs.Cost.{cost_one}
 use Rattle.grammar.specs.Flat.{Flat, denoted, price}
 use Rattle.grammar.specs.Outcome.{Outcome, answers, refused}
@@ -43,8 +43,8 @@ fate g r w x = elim (kinds g r x.cost) [
     from : costs_of w.cost r ≤ 65535 → Count (denoted g) (price g) (costs_of w.cost) r (counts_of w.counts r) → Fate g (costs_of w.cost) r
     from p (counted a u le e) = is (record { priced = a; straight = u }) le
     from p (more a u lt e) = many (record { priced = a; straight = u }) lt
-    from p (no-count (inl l) e) = absurd (omega arith)
-    from p (no-count (inr y) e) = circular y
+    from p (no_count (inl l) e) = absurd (omega arith)
+    from p (no_count (inr y) e) = circular y
 
 -- what the count says of each
 abbrev pub said : {g : Flat} {c : Costs} {r : ℕ} → Fate g c r → Outcome ℕ

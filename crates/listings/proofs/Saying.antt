@@ -38,7 +38,7 @@ use Rattle.listings.specs.Counting.{deep_by, many_by, Ground}
 use Rattle.listings.specs.Numbers.{rule_words, RuleMeasurable, RuleWritable}
 use Rattle.listings.specs.Working.{CountReady, NumberReady, refusal_of}
 use Rattle.listings.proofs.Counting.{count_entry}
-use Rattle.listings.proofs.Exactly.{Fate, none as no-sentence, dear, circular, many as too_many, is, fate}
+use Rattle.listings.proofs.Exactly.{Fate, none as no_sentence, dear, circular, many as too_many, is, fate}
 
 -- where a chain of cheapest productions begins is a cost
 chain_priced : (g : Grammar) (k : ℕ → ℕ) (c : Costs) {a b : ℕ} → Chain (Leads g k c) a b → c a ≤ 65535
@@ -193,7 +193,7 @@ module _ (g : Flat) (r : ℕ) (cost next choice lengths counts : List ℕ) (ok :
       lists = go (fate g r (work cost lengths counts) ok.worked.final)
         where
           go : Fate g (costs_of cost) r → Lists g (costs_of cost) r
-          go (no-sentence h) = absurd (not_both (sym told ∙ said.none h))
+          go (no_sentence h) = absurd (not_both (sym told ∙ said.none h))
           go (dear h) = absurd (not_both (sym told ∙ said.dear h.0 h.1))
           go (circular y) = absurd (not_both (sym told ∙ said.circular y))
           go (too_many l h) = l

@@ -25,7 +25,7 @@ pub record Nexts (g : Flat) (next : List ℕ) : Type 0 where
   pub long : length next ≡ 4096
   pub nexts : (q : ℕ) → q < length g.owners → Leads g.owners (at g.owners q) (q + 1) (at next q)
 
--- what counting and writing go by: a well_formed_law grammar, its COST table, its links and first choices
+-- what counting and writing go by: a well-formed grammar, its COST table, its links and first choices
 pub record Ground (g : Flat) (next cost choice : List ℕ) : Type 0 where
   pub well : WellFormed g
   pub links : Nexts g next

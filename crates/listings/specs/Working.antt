@@ -10,7 +10,7 @@ use Rattle.listings.specs.declared.Counted.TheVariants.{Are, Refused as Not}
 use Rattle.listings.specs.Calls.{CountsDefined, work, Final}
 use Rattle.listings.specs.Counting.{Nexts}
 
--- what filling them asks: a well_formed_law grammar, tables of their exact lengths, no link and no first choice yet
+-- what filling them asks: a well-formed grammar, tables of their exact lengths, no link and no first choice yet
 pub record Workable (g : Flat) (cost next choice lengths counts : List ℕ) : Type 0 where
   pub well : WellFormed g
   pub cost_long : length cost ≡ g.rules
@@ -25,7 +25,7 @@ pub record Worked (g : Flat) (cost next choice lengths counts : List ℕ) : Type
   pub links : Nexts g next
   pub picks : FirstChoices g cost choice
 
--- what the count asks: a well_formed_law grammar, the final tables that it reads, one of its rules
+-- what the count asks: a well-formed grammar, the final tables that it reads, one of its rules
 pub record CountReady (g : Flat) (r : ℕ) (cost counts : List ℕ) : Type 0 where
   pub well : WellFormed g
   pub cost_defined : CostDefined g cost

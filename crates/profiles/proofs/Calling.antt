@@ -14,7 +14,7 @@ use Rattle.tables.proofs.Calls.{call_does, stops, enters}
 use Rattle.engine.specs.First.{lent as firsts}
 use Rattle.engine.specs.Follow.{Lent, lent, reads}
 use Rattle.follows.specs.Calls.{lent_wrong, LentDue, Fillable, Tables}
-use Rattle.follows.proofs.Calling.{fillable as follow-fillable}
+use Rattle.follows.proofs.Calling.{fillable as follow_fillable}
 use Rattle.profiles.specs.declared.Verdict.{Verdict as Answer}
 use Rattle.profiles.specs.Calls.{verdict_is, profile_due, Judges, Judgeable, Judging}
 
@@ -27,7 +27,7 @@ module _ (g : Flat) (follow first empty reached : List ℕ) (c : Checked) (is : 
 
   module _ (e : c ≡ Well) where
     pub fillable : Fillable g l
-    fillable = let k = none_due g ((lent_wrong g.rules (length g.costs) l, 7) ∷ []) (enters c e (is l refl refl refl refl)) in follow-fillable g follow first empty reached k.0 k.1.0
+    fillable = let k = none_due g ((lent_wrong g.rules (length g.costs) l, 7) ∷ []) (enters c e (is l refl refl refl refl)) in follow_fillable g follow first empty reached k.0 k.1.0
 
     module _ (o f m s : List ℕ) (d : Tables g (lent o (reads (firsts f m) s))) where
       pub judgeable : Judgeable g (firsts f m) o

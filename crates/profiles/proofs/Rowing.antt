@@ -18,7 +18,7 @@ use Rattle.rows.proofs.Raise.{raised_front}
 use Rattle.rows.proofs.Tables.{cleared_row, cleared_mark, view_mark}
 use Rattle.tables.specs.Sizes.{words}
 use Rattle.engine.specs.First.{Lent as Firsts, Ready}
-use Rattle.engine.proofs.FirstStepping.{in_lists as prod-lists, walkable as first-walkable}
+use Rattle.engine.proofs.FirstStepping.{in_lists as prod_lists, walkable as first_walkable}
 use Rattle.profiles.specs.Rows.{row_words, Shows, Walkable, Walked, Rowable, marks_in, follow_in, RowIs}
 
 -- one row
@@ -37,7 +37,7 @@ module _ (rules : ℕ) (owners starts symbols costs : List ℕ) (read : Firsts) 
   ready = record { well = ok.reads.well; is_prod = ok.is_prod; held = ok.reads.held }
 
   pub in_lists : (p < length owners) × (p + 1 < length starts)
-  in_lists = prod-lists rules owners starts symbols costs p read ready
+  in_lists = prod_lists rules owners starts symbols costs p read ready
 
   pub few_words : length costs ≤ 512
   few_words = ok.reads.well.sizes.tokens_high
@@ -45,7 +45,7 @@ module _ (rules : ℕ) (owners starts symbols costs : List ℕ) (read : Firsts) 
   module _ (n o a e : ℕ) (en : n ≡ rules) (h : ProdAt owners starts p o a e) where
     pub row_walkable : Walkable n (length costs) symbols a e read (replicate row_words 0)
     row_walkable =
-        let w = first-walkable rules owners starts symbols costs p read ready n o a e en h in
+        let w = first_walkable rules owners starts symbols costs p read ready n o a e en h in
         record {
           forth = record { few_rules = w.few_rules; few_tokens = w.few_tokens; rise = w.rise; fits = w.fits; owner = omega (arith, w.owner); symbol = w.symbol; held = w.held };
           zero = refl;
@@ -83,7 +83,7 @@ module _ (rules : ℕ) (owners starts symbols costs : List ℕ) (read : Firsts) 
       pub follow_place : (wd : ℕ) → wd ≡ words (length costs) → Rows (length costs) wd follow o to 0
       follow_place wd ew = rw ew (record {
         fits = omega arith;
-        from = row_whole rules (words (length costs)) follow o ok.reads.follows.len (rw (← en) (first-walkable rules owners starts symbols costs p read ready n o a e en h).owner);
+        from = row_whole rules (words (length costs)) follow o ok.reads.follows.len (rw (← en) (first_walkable rules owners starts symbols costs p read ready n o a e en h).owner);
         to = omega (arith, walk_long, few_words);
       })
 
@@ -105,7 +105,7 @@ module _ (rules : ℕ) (owners starts symbols costs : List ℕ) (read : Firsts) 
             vanishes = null ∙ not-false past k
 
             owner_row : (t : ℕ) → t < length costs → mark (words (length costs)) follow o t ≡ follow_in g follow ((denoted g).owner p) t
-            owner_row t l = sym (ap (λ z. follow_in g follow z t) (sym h.owner) ∙ view_mark rules (length costs) (words (length costs)) follow o t (rw (← en) (first-walkable rules owners starts symbols costs p read ready n o a e en h).owner) l)
+            owner_row t l = sym (ap (λ z. follow_in g follow z t) (sym h.owner) ∙ view_mark rules (length costs) (words (length costs)) follow o t (rw (← en) (first_walkable rules owners starts symbols costs p read ready n o a e en h).owner) l)
 
             is : (t : ℕ) → Dec (t < length costs) → (((ltb t (length costs) && first t) || (ltb t (length costs) && mark (words (length costs)) follow o t)) || eqb t (length costs)) ≡ row_of (denoted g) (marks_in g read) (follow_in g follow) p t
             is t (yes l) =

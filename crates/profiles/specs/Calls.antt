@@ -36,7 +36,7 @@ abbrev pub Profile : Flat → (follow first empty reached : List ℕ) → Answer
 Profile g follow first empty reached r follow' first' empty' reached' =
     Call (profile_due g (lent follow (reads (firsts first empty) reached))) (Judges g) (lent follow (reads (firsts first empty) reached)) (verdict_is r) (lent follow' (reads (firsts first' empty') reached'))
 
--- what judging asks below the public call: a well_formed_law grammar, finished tables
+-- what judging asks below the public call: a well-formed grammar, finished tables
 pub record Judgeable (g : Flat) (read : Firsts) (follow : List ℕ) : Type 0 where
   pub well : WellFormed g
   pub first_is_law : FirstDefined g read

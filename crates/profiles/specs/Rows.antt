@@ -31,7 +31,7 @@ pub record Walked (R T : ℕ) (symbols : List ℕ) (a e : ℕ) (l : Firsts) (ws 
   pub new : Bool
   pub walks : Walks R T symbols a e 0 l ws new past to
 
--- what is read: a well_formed_law grammar, tables of their lengths
+-- what is read: a well-formed grammar, tables of their lengths
 pub record Readable (g : Flat) (read : Firsts) (follow : List ℕ) : Type 0 where
   pub well : WellFormed g
   pub held : Held g.rules (length g.costs) read

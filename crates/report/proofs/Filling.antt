@@ -1,4 +1,4 @@
--- The fills on a well_formed_law grammar and tables of their exact lengths: none is refused, so each leaves the defined tables.
+-- The fills on a well-formed grammar and tables of their exact lengths: none is refused, so each leaves the defined tables.
 use mathlib.Core.List.{List}
 use mathlib.Core.Path.{◌≡◌, refl, ap, ◌∙◌}
 use Prim.Native.Nat.{ℕ, ◌*◌, ◌≤◌}

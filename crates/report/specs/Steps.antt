@@ -37,7 +37,7 @@ line_in (Refused n) buffer = []
 pub record Stands (written : Written) (buffer : List ℕ) : Type 0 where
   pub most : (n : ℕ) → written ≡ Bytes n → n ≤ length buffer
 
--- a well_formed_law grammar, and FOLLOW, FIRST and EMPTY of their exact lengths
+-- a well-formed grammar, and FOLLOW, FIRST and EMPTY of their exact lengths
 pub record SetsFillable (g : Flat) (follow first empty : List ℕ) : Type 0 where
   pub well : WellFormed g
   pub follow_long : length follow ≡ g.rules * words (length g.costs)
@@ -49,7 +49,7 @@ pub record SetsFull (g : Flat) (follow first empty : List ℕ) : Type 0 where
   pub reached : List ℕ
   pub full : FollowTables g (lent follow (reads (firsts first empty) reached))
 
--- a well_formed_law grammar and all its tables of their exact lengths
+-- a well-formed grammar and all its tables of their exact lengths
 pub record Fillable (g : Flat) (l : Tables) : Type 0 where
   pub well : WellFormed g
   pub empty_long : length l.empty ≡ words g.rules
@@ -57,7 +57,7 @@ pub record Fillable (g : Flat) (l : Tables) : Type 0 where
   pub follow_long : length l.follow ≡ g.rules * words (length g.costs)
   pub cost_long : length l.cost ≡ g.rules
 
--- a well_formed_law grammar and its defined tables, from which the lines are written
+-- a well-formed grammar and its defined tables, from which the lines are written
 pub record Ready (g : Flat) (l : Tables) : Type 0 where
   pub well : WellFormed g
   pub defined : Defined g l

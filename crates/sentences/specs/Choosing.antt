@@ -7,7 +7,7 @@ use Rattle.grammar.specs.Well.{WellFormed}
 use Rattle.engine.specs.Cost.{costs_of}
 use Rattle.sentences.specs.Lent.{choices_of}
 
--- what going up a rule's productions asks: a well_formed_law grammar, a cost for each rule, each production linked to the next of its rule, and p one of rule r's or past the last
+-- what going up a rule's productions asks: a well-formed grammar, a cost for each rule, each production linked to the next of its rule, and p one of rule r's or past the last
 pub record FromReady (g : Flat) (next cost : List ℕ) (r p : ℕ) : Type 0 where
   pub well : WellFormed g
   pub cost_long : length cost ≡ g.rules

@@ -16,7 +16,7 @@ pub record Leads (g : Grammar) (h : Choices) (l : Costs) : Type 0 where
   pub same : (m n r : ℕ) → within g h m r ≡ true → within g h n r ≡ true → expanded g h m r ≡ expanded g h n r
   pub long : (n r : ℕ) → within g h n r ≡ true → length (expanded g h n r) ≤ 65535 → l r ≡ length (expanded g h n r)
 
--- a well_formed_law grammar with its first choices and lengths
+-- a well-formed grammar with its first choices and lengths
 pub record Led (g : Flat) (choice lengths : List ℕ) : Type 0 where
   pub well : WellFormed g
   pub room : length choice ≡ 512

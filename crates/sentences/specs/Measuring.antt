@@ -28,7 +28,7 @@ pub record ChosenBy (g : Flat) (choice : List ℕ) : Type 0 where
   pub table : Costs
   pub chosen : Chosen (denoted g) (price g) table (choices_of choice)
 
--- what a rule's step asks: a well_formed_law grammar, first choices, one of its rules, a number for each rule
+-- what a rule's step asks: a well-formed grammar, first choices, one of its rules, a number for each rule
 pub record LengthReady (g : Flat) (choice : List ℕ) (r : ℕ) (lengths : List ℕ) : Type 0 where
   pub well : WellFormed g
   pub picks : ChosenBy g choice

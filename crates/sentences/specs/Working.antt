@@ -7,7 +7,7 @@ use Rattle.costs.specs.Defined.{CostDefined}
 use Rattle.sentences.specs.Choosing.{FirstChoices}
 use Rattle.sentences.specs.Measuring.{LengthsDefined}
 
--- what filling them asks: a well_formed_law grammar, tables of their exact lengths, no first choice yet
+-- what filling them asks: a well-formed grammar, tables of their exact lengths, no first choice yet
 pub record Workable (g : Flat) (cost choice lengths : List ℕ) : Type 0 where
   pub well : WellFormed g
   pub cost_long : length cost ≡ g.rules
@@ -20,7 +20,7 @@ pub record Worked (g : Flat) (cost choice lengths : List ℕ) : Type 0 where
   pub picks : FirstChoices g cost choice
   pub counts : LengthsDefined g (costs_of cost) lengths
 
--- what an answer asks: a well_formed_law grammar, its working tables, one of its rules
+-- what an answer asks: a well-formed grammar, its working tables, one of its rules
 pub record Finished (g : Flat) (r : ℕ) (cost choice lengths : List ℕ) : Type 0 where
   pub well : WellFormed g
   pub worked : Worked g cost choice lengths

@@ -7,7 +7,7 @@ use mathlib.Core.Option.{Option, none, some, some-injective}
 use mathlib.Core.Path.{fun_ext}
 use native.Mathlib.Decide.{dec_lt}
 use borrow.Author.Tests.{not-true, not-false}
-use Rattle.theory.specs.Below.{some as someBelow}
+use Rattle.theory.specs.Below.{some as some_below}
 use Rattle.theory.specs.Grammar.{tok, rul, Form, Grammar}
 use Rattle.theory.specs.Visits.{Costs, form_cost}
 use Rattle.theory.proofs.Below.{some_found, none_at}
@@ -71,7 +71,7 @@ module _ (g : Grammar) (k : ℕ → ℕ) where
 
   -- some rule is not done
   abbrev pub unfinished : State → Bool
-  unfinished s = someBelow g.rules (λ r. not (s.done r))
+  unfinished s = some_below g.rules (λ r. not (s.done r))
 
   -- what the costs come to in at most n turns
   abbrev pub costs_in : ℕ → State → Option Costs
@@ -122,7 +122,7 @@ module _ (g : Grammar) (k : ℕ → ℕ) where
 
   -- the same costs and the same rules done
   abbrev pub same_state : State → State → Bool
-  same_state s t = not (someBelow g.rules (λ r. not (eqb (t.costs r) (s.costs r)) || not (same (t.done r) (s.done r))))
+  same_state s t = not (some_below g.rules (λ r. not (eqb (t.costs r) (s.costs r)) || not (same (t.done r) (s.done r))))
 
   same_state_law : (s t : State) → turn (iter_rules g) s ≡ some t → same_state s t ≡ true → t ≡ s
   same_state_law s t e h = ap₂ (λ c d. record { costs = c; done = d }) (fun_ext (λ r. (at r).costs)) (fun_ext (λ r. (at r).done))

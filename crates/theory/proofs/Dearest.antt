@@ -19,7 +19,7 @@ use Rattle.theory.specs.Tables.{Proper}
 use Rattle.theory.specs.Dearest.{Greatest, Unbounded, Dearest, is, unbounded, none, above}
 use Rattle.theory.specs.DearestVisits.{no_bound, add_up, form_dearest, lifted, dearest_visit, dearest_cleared, ends_as}
 use Rattle.theory.proofs.Bools.{tested, eqb_same}
-use Rattle.theory.proofs.Yields.{Yields, nil, keep, yields_append, derives→yields, map-append, Spells, snil, stok, srul, spelled}
+use Rattle.theory.proofs.Yields.{Yields, nil, keep, yields_append, derives→yields, map_append, Spells, snil, stok, srul, spelled}
 use Rattle.theory.proofs.Rounds.{run_keeps, rounds_keeps}
 use Rattle.theory.proofs.Cost.{cost_append}
 use Rattle.theory.proofs.Pumping.{Around, GainingLoop, loop_unbounded, loop_on, loop_productive, around_front, around_here, around_prod}
@@ -221,7 +221,7 @@ module _ (g : Grammar) (k : ℕ → ℕ) (ok : Proper g) (lim : Limits g k) wher
       let s = addup_adds.known (c r) _ lt in
       let i = backed_strings c f α s.1 in
       let j = backed_sentence c f r s.0 in
-      (j.0 ++ i.0, rw map-append (yields_append (derives→yields j.1) i.1))
+      (j.0 ++ i.0, rw map_append (yields_append (derives→yields j.1) i.1))
 
   -- a known sum is what some level comes to, or the form leads to a loop
   parts : (c : Costs) → Backed c → (α : Form) → 0 < form_dearest add_up k c α → ((n : ℕ) × (form_dearest add_up k c α ≤ form_dearest add_up k (level_dearest add_up g k n) α)) ⊎ ((q : ℕ) × (d : ℕ) × Around g k α q d × GainingLoop g k q)

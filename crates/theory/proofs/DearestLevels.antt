@@ -18,7 +18,7 @@ use Rattle.theory.specs.Tables.{Proper}
 use Rattle.theory.specs.DearestVisits.{form_dearest}
 use Rattle.theory.proofs.Bools.{or_split, or_left, or_right, tested, passes, eqb_same}
 use Rattle.theory.proofs.Count.{count_up, count_upto}
-use Rattle.theory.proofs.Yields.{Yields, nil, keep, yields_append, derives→yields, by_prod, map-append}
+use Rattle.theory.proofs.Yields.{Yields, nil, keep, yields_append, derives→yields, by_prod, map_append}
 use Rattle.theory.proofs.Cost.{cost_append}
 use Rattle.theory.proofs.Pumping.{Around, GainingLoop, around_self, around_on, around_front, around_here, around_prod}
 
@@ -98,7 +98,7 @@ module _ {op : ℕ → ℕ → ℕ} (a : WayToAdd op) where
         let s = a.known (c r) (form_dearest op k c α) lt in
         let i = form_strings c h α s.1 in
         let j = h r s.0 in
-        (j.0 ++ i.0, rw map-append (yields_append (derives→yields j.1) i.1), omega (arith, i.2, j.2, cost_append k j.0 i.0, a.upto (c r) (form_dearest op k c α) s.0 s.1))
+        (j.0 ++ i.0, rw map_append (yields_append (derives→yields j.1) i.1), omega (arith, i.2, j.2, cost_append k j.0 i.0, a.upto (c r) (form_dearest op k c α) s.0 s.1))
 
     pub level_sentence : (n r : ℕ) → 0 < level_dearest op g k n r → (w : List ℕ) × Sentence g r w × (level_dearest op g k n r ≤ suc (cost_of k w))
     level_sentence zero r lt = absurd (not-suc-le-zero lt)

@@ -6,7 +6,7 @@ use native.Mathlib.Omega.{arith}
 use Rattle.theory.specs.Grammar.{tok, rul, Form, Grammar, Derives, done}
 use Rattle.theory.specs.Definitions.{Sentence, Productive, cost_of}
 use Rattle.theory.specs.Dearest.{Unbounded}
-use Rattle.theory.proofs.Yields.{Yields, keep, yields_append, derives→yields, yields→derives, by_prod, derives_trans, derives_under, map-append}
+use Rattle.theory.proofs.Yields.{Yields, keep, yields_append, derives→yields, yields→derives, by_prod, derives_trans, derives_under, map_append}
 use Rattle.theory.proofs.Cost.{cost_append}
 
 -- α derives a form of tokens with one rule b in it, and the tokens cost d
@@ -33,7 +33,7 @@ module _ {g : Grammar} {k : ℕ → ℕ} where
   around_on {α} {b} {c} x y = record {
     left = x.left ++ y.left;
     right = y.right ++ x.right;
-    derives = derives_trans x.derives (simp (map-append, append_assoc) (simp append_assoc at (derives_under (map tok x.left) (map tok x.right) y.derives)));
+    derives = derives_trans x.derives (simp (map_append, append_assoc) (simp append_assoc at (derives_under (map tok x.left) (map tok x.right) y.derives)));
     adds = omega (arith, x.adds, y.adds, cost_append k x.left y.left, cost_append k y.right x.right);
   }
 
@@ -42,7 +42,7 @@ module _ {g : Grammar} {k : ℕ → ℕ} where
   around_front x y l = record {
     left = x ++ l.left;
     right = l.right;
-    derives = simp (map-append, append_assoc) (yields→derives (yields_append y (derives→yields l.derives)));
+    derives = simp (map_append, append_assoc) (yields→derives (yields_append y (derives→yields l.derives)));
     adds = omega (arith, l.adds, cost_append k x l.left);
   }
 
@@ -57,7 +57,7 @@ module _ {g : Grammar} {k : ℕ → ℕ} where
   pub around_sentence : {α : Form} {b d : ℕ} → Around g k α b d → (w : List ℕ) → Sentence g b w → (v : List ℕ) × Derives g α (map tok v) × (cost_of k v ≡ d + cost_of k w)
   around_sentence x w s = (
     x.left ++ (w ++ x.right),
-    rw (map-append x.left (w ++ x.right), map-append w x.right) (derives_trans x.derives (derives_under (map tok x.left) (map tok x.right) s)),
+    rw (map_append x.left (w ++ x.right), map_append w x.right) (derives_trans x.derives (derives_under (map tok x.left) (map tok x.right) s)),
     omega (arith, x.adds, cost_append k x.left (w ++ x.right), cost_append k w x.right),
   )
 

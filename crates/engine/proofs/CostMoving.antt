@@ -11,7 +11,7 @@ use lib.Seq.{ext_get_or}
 use borrow.Author.Tests.{eqb-true}
 use Rattle.theory.specs.Visits.{productive_visit, cost_visit}
 use Rattle.theory.proofs.Bools.{and_split, or_split}
-use Rattle.theory.proofs.Count.{Inside, marks, column, climb}
+use Rattle.theory.proofs.Count.{Inside, column, climb}
 use Rattle.theory.proofs.CostRounds.{Fits, cost_climb}
 use Rattle.theory.proofs.Fills.{Filling}
 use Rattle.theory.proofs.Productive.{productive_marked}

@@ -1,5 +1,5 @@
 -- What is plain: a visit makes its production quiet, no visit takes that back, and a round makes all plain ones so.
-use mathlib.Core.Bool.{true, false, ◌&&◌, ◌||◌, false≢true}
+use mathlib.Core.Bool.{true, ◌&&◌, ◌||◌, false≢true}
 use mathlib.Core.List.{[], ◌∷◌}
 use mathlib.Core.Logic.{inl, inr}
 use mathlib.Core.Path.{◌≡◌, refl, sym, ◌∙◌, ap, subst, fun_ext}

@@ -1,14 +1,13 @@
 -- What each call owes, from what the call below promises for the house grammar.
-use mathlib.Core.Bool.{Bool, true, false, ◌||◌}
-use mathlib.Core.List.{List, [], ◌∷◌}
-use mathlib.Core.Logic.{inl, inr}
-use mathlib.Core.Path.{◌≡◌, refl, sym, ◌∙◌, subst}
-use Prim.Native.Nat.{ℕ, ◌≤◌, ◌<◌}
+use mathlib.Core.List.{List}
+use mathlib.Core.Logic.{inr}
+use mathlib.Core.Path.{◌≡◌, refl, ◌∙◌}
+use Prim.Native.Nat.{ℕ}
 use native.Mathlib.Omega.{arith}
 use lib.Dec.{leb}
 use lib.ListN.{length}
 use borrow.Author.Tests.{leb-false}
-use Rattle.grammar.specs.Outcome.{Outcome, answers, refused, unless}
+use Rattle.grammar.specs.Outcome.{Outcome, answers}
 use Rattle.grammar.specs.Production.{checked_is, check_of}
 use Rattle.grammar.specs.Refusals.{unless_due}
 use Rattle.grammar.specs.declared.Checked.{Checked}
@@ -24,7 +23,7 @@ use Rattle.costs.specs.Calls.{Fill as FillBelow}
 use Rattle.engine.specs.Cost.{costs_of}
 use Rattle.costs.specs.Query.{MinSentenceCost}
 use Rattle.costs.specs.declared.Cost.{Cost as CostAnswer}
-use Rattle.sentences.specs.Query.{Lends, lends, MinSentence}
+use Rattle.sentences.specs.Query.{MinSentence}
 use Rattle.sentences.specs.declared.Length.{Length as LengthAnswer}
 use Rattle.house.specs.Table.{house, cheapest_row}
 use Rattle.house.specs.Calls.{FillFirst, is_first_of, is_empty_of, FillCost, MinCost, CheapestRow}

@@ -5,7 +5,6 @@ use mathlib.Core.Bool.{true}
 use Prim.Native.Nat.{ℕ, ◌≤◌, ◌<◌}
 use Rattle.theory.specs.Below.{some}
 use Rattle.theory.specs.Grammar.{rul}
-use Rattle.theory.specs.Levels.{within, expanded}
 use Rattle.theory.specs.Sentences.{Grounded, Expands}
 use Rattle.theory.specs.Tables.{CostExact}
 use Rattle.theory.specs.Visits.{Costs}

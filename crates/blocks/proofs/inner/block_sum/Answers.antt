@@ -1,4 +1,3 @@
-use Prim.Native.Nat.{◌-◌}
 use Rattle.blocks.specs.Layout.{block_sum}
 use Rattle.blocks.proofs.Lists.{total_none, total_more, total_all}
 use borrow.Author.Rules.{rules}

@@ -1,4 +1,3 @@
-use Prim.Native.Nat.{◌-◌}
 use Rattle.theory.proofs.Below.{some_none, some_more, some_yes, some_no}
 use Rattle.theory.proofs.Bools.{told}
 use Rattle.blocks.specs.Refusals.{checks_differ}

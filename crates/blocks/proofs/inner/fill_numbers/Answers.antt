@@ -1,4 +1,3 @@
-use Prim.Native.Nat.{◌-◌}
 use Rattle.blocks.specs.Layout.{numbers}
 use Rattle.blocks.proofs.Lists.{fill_start, fill_on, fill_end}
 use borrow.Author.Rules.{rules}

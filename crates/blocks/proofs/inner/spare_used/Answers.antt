@@ -1,4 +1,3 @@
-use Prim.Native.Nat.{◌-◌}
 use Rattle.theory.proofs.Below.{some_none, some_more, some_yes, some_no}
 use Rattle.blocks.specs.Refusals.{spare_used}
 use Rattle.blocks.proofs.Steps.{spare_not, spare_zero}

@@ -1,4 +1,3 @@
-use Prim.Native.Nat.{◌-◌}
 use Rattle.theory.proofs.Below.{some_none, some_more, some_yes, some_no}
 use Rattle.blocks.proofs.Steps.{zero_is, zero_not}
 use borrow.Author.Rules.{rules}

@@ -1,4 +1,3 @@
-use Prim.Native.Nat.{◌-◌}
 use Rattle.engine.proofs.Summing.{sum_start, sum_priced, sum_unknown, sum_on, sum_end}
 use borrow.Author.Rules.{rules}
 use Rattle.costs.proofs.inner.sum.Goals as goal

@@ -1,4 +1,3 @@
-use Prim.Native.Nat.{◌-◌}
 use Rattle.dearest.proofs.Finishing.{finish_start, finish_on, finish_end}
 use borrow.Author.Rules.{rules}
 use Rattle.dearest.proofs.inner.finish.Goals as goal

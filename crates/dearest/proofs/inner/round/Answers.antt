@@ -1,4 +1,3 @@
-use Prim.Native.Nat.{◌-◌}
 use Rattle.dearest.proofs.Rounding.{round_begin, round_ready, round_more, round_made}
 use borrow.Author.Rules.{rules}
 use Rattle.dearest.proofs.inner.round.Goals as goal

@@ -2,7 +2,6 @@ use Prim.Native.Nat.{◌≤◌, ◌-◌}
 use lib.ListN.{length}
 use Rattle.grammar.specs.Flat.{flat}
 use Rattle.dearest.proofs.Rounding.{DearestTurned}
-use borrow.Author.Rules.{rules}
 use Rattle.dearest.proofs.inner.round.Given as goal
 
 abbrev pub invariant-loop-i : goal.invariant-loop-i

@@ -1,6 +1,5 @@
 use Rattle.grammar.specs.Flat.{flat}
 use Rattle.dearest.proofs.Rounding.{DearestStage, dearest_left}
-use borrow.Author.Rules.{rules}
 use Rattle.dearest.proofs.inner.settle.Given as goal
 
 abbrev pub invariant-loop-changed : goal.invariant-loop-changed

@@ -1,4 +1,3 @@
-use Prim.Native.Nat.{◌-◌}
 use Rattle.dearest.proofs.Summing.{sum_start, sum_place, sum_priced, sum_unknown, sum_part, sum_most, sum_on, sum_end}
 use borrow.Author.Rules.{rules}
 use Rattle.dearest.proofs.inner.sum.Goals as goal

@@ -1,4 +1,3 @@
-use Prim.Native.Nat.{◌-◌}
 use native.Mathlib.Omega.{arith}
 use borrow.Author.Rules.{rules}
 use Rattle.engine.proofs.Rounding.{turn_start, turn_ready, turn_on, turn_end, turn_long, turn_row}

@@ -1,4 +1,4 @@
-use mathlib.Core.Bool.{true, false≢true}
+use mathlib.Core.Bool.{false≢true}
 use Rattle.engine.proofs.Rounding.{rounds_start, rounds_begun, rounds_again, rounds_less, rounds_done, rounds_due, rounds_long, rounds_row}
 use Rattle.engine.proofs.inner.settle.Goals as goal
 

@@ -1,4 +1,3 @@
-use Prim.Native.Nat.{◌-◌}
 use Rattle.jobs.proofs.Working.{working_start, working_ready, working_on, working_end, more_left}
 use borrow.Author.Rules.{rules}
 use native.Mathlib.Omega.{arith}

@@ -1,4 +1,3 @@
-use Prim.Native.Nat.{◌-◌}
 use Rattle.lines.proofs.Sets.{set_start, set_in, set_room, set_on, set_end}
 use borrow.Author.Rules.{rules}
 use Rattle.lines.proofs.inner.set.Goals as goal

@@ -1,4 +1,3 @@
-use Prim.Native.Nat.{◌-◌}
 use Rattle.paths.proofs.Reaching.{copy_start, copy_on, copy_end}
 use borrow.Author.Rules.{rules}
 use Rattle.paths.proofs.inner.copy.Goals as goal

@@ -1,4 +1,3 @@
-use Prim.Native.Nat.{◌-◌}
 use Rattle.paths.proofs.Going.{prod_start, prod_one, prod_on, prod_end}
 use borrow.Author.Rules.{rules}
 use Rattle.paths.proofs.inner.prod.Goals as goal

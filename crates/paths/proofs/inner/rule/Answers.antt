@@ -1,4 +1,3 @@
-use Prim.Native.Nat.{◌-◌}
 use Rattle.paths.proofs.Going.{rule_place, rule_start, rule_start_in, rule_end_in, rule_next_in, rule_prod, rule_less, rule_on, rule_end}
 use borrow.Author.Rules.{rules}
 use Rattle.paths.proofs.inner.rule.Goals as goal

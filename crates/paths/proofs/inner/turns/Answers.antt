@@ -1,5 +1,4 @@
 use native.Mathlib.Omega.{arith}
-use Prim.Native.Nat.{◌-◌}
 use Rattle.paths.proofs.Turning.{turns_start, turns_in, turns_long, turns_yes, turns_no, turns_place, turns_on, turns_less}
 use borrow.Author.Rules.{rules}
 use Rattle.paths.proofs.inner.turns.Goals as goal

@@ -1,5 +1,4 @@
 use borrow.Author.Rules.{rules}
-use Prim.Native.Nat.{◌-◌}
 use Rattle.theory.proofs.Below.{scan_found, scan_on, scan_none}
 use Rattle.theory.proofs.Bools.{told}
 use Rattle.profiles.proofs.Pairing.{look_start, look_at}

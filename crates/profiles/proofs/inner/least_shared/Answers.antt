@@ -1,5 +1,4 @@
 use borrow.Author.Rules.{rules}
-use Prim.Native.Nat.{◌-◌}
 use native.Mathlib.Omega.{arith}
 use Rattle.theory.proofs.Below.{scan_found, scan_on, scan_none}
 use Rattle.theory.proofs.Bools.{and_told}

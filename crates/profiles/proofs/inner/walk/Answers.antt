@@ -1,5 +1,4 @@
 use mathlib.Core.Path.{refl}
-use Prim.Native.Nat.{◌-◌}
 use Rattle.engine.proofs.FirstWalking.{walk_end, token_place, walk_token, first_place, empty_place, walk_on, walk_stop, joined_from}
 use Rattle.profiles.proofs.Walking.{going_start}
 use mathlib.Core.Path.{ap}

@@ -1,4 +1,3 @@
-use Prim.Native.Nat.{◌-◌}
 use Rattle.blocks.proofs.Writing.{blocks_start, blocks_on, blocks_end}
 use borrow.Author.Rules.{rules}
 use Rattle.blocks.proofs.inner.writing.put_blocks.Goals as goal

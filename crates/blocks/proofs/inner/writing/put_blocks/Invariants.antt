@@ -2,7 +2,6 @@ use Prim.Native.Nat.{◌-◌, ◌≤◌}
 use Rattle.grammar.specs.Flat.{flat}
 use Rattle.blocks.specs.File.{payload_of}
 use Rattle.blocks.proofs.Writing.{Blocked}
-use borrow.Author.Rules.{rules}
 use Rattle.blocks.proofs.inner.writing.put_blocks.Given as goal
 
 abbrev pub invariant-loop-b : goal.invariant-loop-b

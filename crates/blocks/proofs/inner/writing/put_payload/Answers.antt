@@ -1,4 +1,3 @@
-use Prim.Native.Nat.{◌-◌}
 use Rattle.blocks.specs.File.{part_of}
 use Rattle.blocks.proofs.Writing.{put_start, put_on, put_end}
 use borrow.Author.Rules.{rules}

@@ -2,7 +2,6 @@ use Prim.Native.Nat.{◌+◌, ◌*◌, ◌-◌, ◌≤◌}
 use Rattle.grammar.specs.Flat.{flat, at as byte_at}
 use Rattle.blocks.specs.File.{payload_of}
 use Rattle.blocks.proofs.Writing.{Putting}
-use borrow.Author.Rules.{rules}
 use Rattle.blocks.proofs.inner.writing.put_payload.Given as goal
 
 abbrev pub invariant-loop-k : goal.invariant-loop-k

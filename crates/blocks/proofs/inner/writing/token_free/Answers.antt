@@ -1,4 +1,3 @@
-use Prim.Native.Nat.{◌-◌}
 use Rattle.theory.proofs.Below.{some_none, some_more}
 use Rattle.blocks.proofs.Steps.{free_other, free_found, free_none, cost_not}
 use borrow.Author.Rules.{rules}

@@ -1,4 +1,3 @@
-use Prim.Native.Nat.{◌-◌}
 use Rattle.engine.proofs.Reading.{reading_start, reading_ready, reading_below, reading_known, reading_unknown, reading_cut, reading_end}
 use borrow.Author.Rules.{rules}
 use Rattle.engine.proofs.inner.cost.sum_to.Goals as goal

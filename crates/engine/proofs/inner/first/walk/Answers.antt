@@ -1,5 +1,4 @@
 use mathlib.Core.Path.{refl}
-use Prim.Native.Nat.{◌-◌}
 use Rattle.engine.proofs.FirstWalking.{own_start, walk_end, token_place, walk_token, own_place, empty_place, walk_on, walk_stop, joined_own}
 use mathlib.Core.Path.{ap}
 use mathlib.Core.Bool.{not}

@@ -1,5 +1,4 @@
 use mathlib.Core.Path.{refl}
-use Prim.Native.Nat.{◌-◌}
 use Rattle.engine.proofs.Tailing.{tail_start, tail_long, tail_end, tail_in, tail_token, tail_rows, tail_place, tail_stop, tail_on}
 use mathlib.Core.Path.{ap}
 use mathlib.Core.Bool.{not}

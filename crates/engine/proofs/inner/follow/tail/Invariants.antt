@@ -1,10 +1,9 @@
 use Prim.Native.Nat.{◌-◌}
-use borrow.Author.Rules.{rules}
 use Rattle.engine.proofs.Tailing.{Tailing}
 use Rattle.engine.proofs.inner.follow.tail.Given as goal
 
 abbrev pub invariant-loop-i : goal.invariant-loop-i
-invariant-loop-i l = 
+invariant-loop-i l =
     Tailing l.rules l.tokens l.symbols l.a l.e l.owner l.empty l.initial.follow l.follow l.new l.i
 
 abbrev pub decreases-loop-i : goal.decreases-loop-i

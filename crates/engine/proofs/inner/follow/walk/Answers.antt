@@ -1,4 +1,3 @@
-use Prim.Native.Nat.{◌-◌}
 use native.Mathlib.Omega.{arith}
 use Rattle.engine.proofs.FollowWalking.{walk_start, ahead_long, follow_long, walk_end, walk_in, walk_turn, walk_on}
 use Rattle.engine.proofs.inner.follow.walk.Goals as goal

@@ -1,4 +1,3 @@
-use Prim.Native.Nat.{◌-◌}
 use Rattle.engine.proofs.Marking.{marked_start, marked_ready, marked_stop, marked_on, marked_end}
 use borrow.Author.Rules.{rules}
 use Rattle.engine.proofs.inner.productive.all_marked.Goals as goal

@@ -1,6 +1,5 @@
 use Prim.Native.Nat.{◌-◌}
 use Rattle.engine.proofs.Marking.{Marked}
-use borrow.Author.Rules.{rules}
 use Rattle.engine.proofs.inner.productive.all_marked.Given as goal
 
 abbrev pub invariant-loop-i : goal.invariant-loop-i

@@ -1,10 +1,6 @@
 use mathlib.Core.Path.{refl}
-use lib.ListN.{length}
-use Rattle.grammar.specs.Flat.{flat}
-use Rattle.listings.proofs.Counting.{Producing, Ruling, producing_caps, producing_end, producing_fails, producing_long, producing_long_on, producing_on, producing_rule, producing_start, producing_token, rule_entry, rule_known, rule_level, rule_none, rule_place, ruling_caps, ruling_end, ruling_entry, ruling_fails, ruling_from, ruling_less, ruling_long_on, ruling_long_set, ruling_next_at, ruling_on, ruling_place, ruling_production, ruling_start, ruling_start_at}
-use borrow.Author.Rules.{rules}
+use Rattle.listings.proofs.Counting.{producing_caps, producing_end, producing_fails, producing_long, producing_long_on, producing_on, producing_rule, producing_start, producing_token, rule_entry, rule_known, rule_level, rule_none, rule_place, ruling_caps, ruling_end, ruling_entry, ruling_fails, ruling_from, ruling_less, ruling_long_on, ruling_long_set, ruling_next_at, ruling_on, ruling_place, ruling_production, ruling_start, ruling_start_at}
 use native.Mathlib.Omega.{arith}
-use Prim.Native.Nat.{ℕ, ◌+◌, ◌*◌, ◌-◌, ◌<◌}
 use Rattle.listings.proofs.inner.counts.+count_production_count_rule.Goals as goal
 
 pub count_production-loop-i-init : goal.count_production-loop-i-init

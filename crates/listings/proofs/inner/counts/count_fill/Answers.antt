@@ -1,4 +1,3 @@
-use Prim.Native.Nat.{◌-◌}
 use Rattle.listings.proofs.Counting.{filling_start, filling_long, filling_rule, filling_on, filling_end}
 use native.Mathlib.Omega.{arith}
 use Rattle.listings.proofs.inner.counts.count_fill.Goals as goal

@@ -1,10 +1,7 @@
 use mathlib.Core.Path.{refl}
-use Rattle.grammar.specs.Flat.{flat}
 use Rattle.listings.proofs.Along.{along_entry, along_length, along_place}
-use Rattle.listings.proofs.Measuring.{Measuring, measured_entry, measured_find, measured_first, measured_is, measured_level, measured_next_at, measured_production, measured_start_at, measuring_caps, measuring_end, measuring_first, measuring_on, measuring_one, measuring_rule, measuring_rule_caps, measuring_start, measuring_token}
-use borrow.Author.Rules.{rules}
+use Rattle.listings.proofs.Measuring.{measured_entry, measured_find, measured_first, measured_is, measured_level, measured_next_at, measured_production, measured_start_at, measuring_caps, measuring_end, measuring_first, measuring_on, measuring_one, measuring_rule, measuring_rule_caps, measuring_start, measuring_token}
 use native.Mathlib.Omega.{arith}
-use Prim.Native.Nat.{ℕ, ◌+◌, ◌*◌, ◌-◌, ◌<◌}
 use Rattle.listings.proofs.inner.numbers.+length_production_length_rule.Goals as goal
 
 pub length_production-loop-i-init : goal.length_production-loop-i-init

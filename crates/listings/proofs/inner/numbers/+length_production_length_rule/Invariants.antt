@@ -1,21 +1,17 @@
-use mathlib.Core.Path.{refl}
 use Rattle.grammar.specs.Flat.{flat}
-use Rattle.listings.proofs.Along.{along_entry, along_length, along_place}
-use Rattle.listings.proofs.Measuring.{Measuring, measured_entry, measured_find, measured_first, measured_is, measured_level, measured_next_at, measured_production, measured_start_at, measuring_caps, measuring_end, measuring_first, measuring_on, measuring_one, measuring_rule, measuring_rule_caps, measuring_start, measuring_token}
-use borrow.Author.Rules.{rules}
-use native.Mathlib.Omega.{arith}
-use Prim.Native.Nat.{ℕ, ◌+◌, ◌*◌, ◌-◌, ◌<◌}
+use Rattle.listings.proofs.Measuring.{Measuring}
+use Prim.Native.Nat.{◌+◌, ◌*◌, ◌-◌}
 use Rattle.listings.proofs.inner.numbers.+length_production_length_rule.Given as goal
 
 abbrev pub decreases-length_production : goal.decreases-length_production
 decreases-length_production l = l.levels * 2 + 1
 
 abbrev pub invariant-length_production-loop-i : goal.invariant-length_production-loop-i
-invariant-length_production-loop-i l = 
+invariant-length_production-loop-i l =
     Measuring (flat l.rules l.owners l.starts l.symbols l.costs) l.cost l.counts l.levels l.a l.e l.todo l.i l.j l.n
 
 abbrev pub decreases-length_production-loop-i : goal.decreases-length_production-loop-i
-decreases-length_production-loop-i l = 
+decreases-length_production-loop-i l =
     l.e - l.i
 
 abbrev pub decreases-length_rule : goal.decreases-length_rule

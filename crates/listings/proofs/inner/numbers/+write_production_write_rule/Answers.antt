@@ -1,11 +1,8 @@
 use mathlib.Core.Path.{refl}
-use Rattle.grammar.specs.Flat.{flat}
 use Rattle.listings.proofs.Along.{along_entry, along_place}
 use Rattle.listings.proofs.Measuring.{measured_find, measured_level, measured_next_at, measured_start_at}
-use Rattle.listings.proofs.Writing.{Writing, writing_end, writing_first, writing_long, writing_on, writing_one, writing_place, writing_rule, writing_start, writing_token, writing_low, written_first, written_is, written_production, written_ready}
-use borrow.Author.Rules.{rules}
+use Rattle.listings.proofs.Writing.{writing_end, writing_first, writing_long, writing_on, writing_one, writing_place, writing_rule, writing_start, writing_token, writing_low, written_first, written_is, written_production, written_ready}
 use native.Mathlib.Omega.{arith}
-use Prim.Native.Nat.{ℕ, ◌+◌, ◌*◌, ◌-◌, ◌<◌}
 use Rattle.listings.proofs.inner.numbers.+write_production_write_rule.Goals as goal
 
 pub write_production-loop-i-init : goal.write_production-loop-i-init

@@ -1,4 +1,3 @@
-use Prim.Native.Nat.{◌-◌}
 use Rattle.listings.proofs.Finding.{find_place, find_start, find_start_at, find_next_at, find_link, find_places, find_turnable, find_found, find_from, find_less, find_on}
 use native.Mathlib.Omega.{arith}
 use Rattle.listings.proofs.inner.numbers.find.Goals as goal

@@ -1,5 +1,4 @@
 use mathlib.Core.Path.{refl}
-use Prim.Native.Nat.{◌-◌}
 use Rattle.listings.proofs.Placing.{placing_start, placing_end, placing_token, placing_entry, placing_one, placing_place, placing_more}
 use borrow.Author.Rules.{rules}
 use native.Mathlib.Omega.{arith}

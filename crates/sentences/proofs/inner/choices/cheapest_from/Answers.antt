@@ -1,4 +1,3 @@
-use Prim.Native.Nat.{◌-◌}
 use Rattle.sentences.proofs.Choosing.{rule_entry, rising_start, from_dear, from_none, from_found, rising_lists, rising_place, rising_pricing, rising_less, rising_on}
 use borrow.Author.Rules.{rules}
 use Rattle.sentences.proofs.inner.choices.cheapest_from.Goals as goal

@@ -3,7 +3,6 @@ use lib.ListN.{length}
 use Prim.Native.Nat.{◌-◌}
 use Rattle.grammar.specs.Flat.{flat}
 use Rattle.sentences.proofs.Choosing.{Rising}
-use borrow.Author.Rules.{rules}
 use Rattle.sentences.proofs.inner.choices.cheapest_from.Given as goal
 
 abbrev pub invariant-loop-q : goal.invariant-loop-q

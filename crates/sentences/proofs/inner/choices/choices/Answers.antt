@@ -1,4 +1,3 @@
-use Prim.Native.Nat.{◌-◌}
 use native.Mathlib.Omega.{arith}
 use Rattle.sentences.proofs.Choosing.{choice_links, choosing_start, choice_place, choosing_ready, choosing_on, choosing_end}
 use borrow.Author.Rules.{rules}

@@ -2,7 +2,6 @@
 use Prim.Native.Nat.{◌-◌}
 use Rattle.grammar.specs.Flat.{flat}
 use Rattle.sentences.proofs.Choosing.{Choosing}
-use borrow.Author.Rules.{rules}
 use Rattle.sentences.proofs.inner.choices.choices.Given as goal
 
 abbrev pub invariant-loop-r : goal.invariant-loop-r

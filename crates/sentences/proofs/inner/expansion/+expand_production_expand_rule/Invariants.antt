@@ -1,10 +1,6 @@
-use mathlib.Core.Path.{refl}
 use Prim.Native.Nat.{◌+◌, ◌-◌, ◌*◌}
 use Rattle.grammar.specs.Flat.{flat}
-use Rattle.sentences.proofs.Expanding.{Expanding, expanding_start, expanding_end, expanding_long, expanding_place, expanding_low, expanding_token, expanding_rule, expanding_on, rule_empty, rule_choice, rule_copyable, rule_copied, rule_level, rule_start, rule_next, rule_production, rule_wrote}
-use borrow.Author.Rules.{rules}
-use native.Mathlib.Omega.{arith}
-use Prim.Native.Nat.{ℕ, ◌<◌}
+use Rattle.sentences.proofs.Expanding.{Expanding}
 use Rattle.sentences.proofs.inner.expansion.+expand_production_expand_rule.Given as goal
 
 abbrev pub decreases-expand_production : goal.decreases-expand_production

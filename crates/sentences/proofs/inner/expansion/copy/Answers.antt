@@ -1,4 +1,3 @@
-use Prim.Native.Nat.{◌-◌}
 use Rattle.sentences.proofs.Copying.{copy_start, copy_long, copy_from, copy_to, copy_on, copy_end}
 use borrow.Author.Rules.{rules}
 use Rattle.sentences.proofs.inner.expansion.copy.Goals as goal

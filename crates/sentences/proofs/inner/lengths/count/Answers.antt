@@ -1,4 +1,3 @@
-use Prim.Native.Nat.{◌-◌}
 use Rattle.sentences.proofs.Counting.{counted_start, counted_end, counted_symbol, counted_unknown, counted_on}
 use borrow.Author.Rules.{rules}
 use Rattle.sentences.proofs.inner.lengths.count.Goals as goal

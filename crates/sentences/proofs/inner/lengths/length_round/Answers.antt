@@ -1,4 +1,3 @@
-use Prim.Native.Nat.{◌-◌}
 use Rattle.sentences.proofs.Measuring.{length_begin, length_ready, length_on, length_end}
 use borrow.Author.Rules.{rules}
 use Rattle.sentences.proofs.inner.lengths.length_round.Goals as goal

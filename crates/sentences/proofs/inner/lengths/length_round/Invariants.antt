@@ -1,7 +1,6 @@
 use Prim.Native.Nat.{◌≤◌, ◌-◌}
 use Rattle.grammar.specs.Flat.{flat}
 use Rattle.sentences.proofs.Measuring.{LengthTurned}
-use borrow.Author.Rules.{rules}
 use Rattle.sentences.proofs.inner.lengths.length_round.Given as goal
 
 abbrev pub invariant-loop-i : goal.invariant-loop-i

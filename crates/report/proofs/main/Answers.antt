@@ -1,0 +1,7 @@
+use Rattle.std.proofs.Common.{arith, length}
+use Rattle.blocks.proofs.Steps.{taken}
+use Rattle.report.proofs.Printing.{prints}
+use Rattle.report.proofs.main.Goals as goal
+
+pub print-requires : goal.print-requires
+print-requires c = prints (length c.read_file-got.new.file) c.in-Bytes.n c.read_file-got.new.file _ (omega arith) c.file_report-end.ensures.is

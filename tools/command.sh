@@ -20,12 +20,12 @@ done
 
 command=$root/target/rust/release/boltmarrow
 library=$root/target/staticlib/libboltmarrow.a
-if [ ! -x "$command" ] || [ -n "$(find "$root/bindings/rust" "$root/crates" "$root/crates.txt" "$library" -type f \
-    -newer "$command" 2>&1 | head -n 1)" ]; then
+. "$root/tools/prove.sh"
+if stale "$command" "$root" || [ -n "$(find "$root/bindings/rust" "$library" -type f -newer "$command" 2>&1 |
+    head -n 1)" ]; then
     [ "$(uname -m)" = x86_64 ] || die "the library is for x86-64, and this is $(uname -m)"
     command -v cargo >/dev/null 2>&1 || die 'Rust is not installed: its command cargo is not on the path'
-    if [ ! -e "$library" ] ||
-        [ -n "$(find "$root/crates" "$root/crates.txt" -type f -newer "$library" | head -n 1)" ]; then
+    if stale "$library" "$root"; then
         say 'proving and building the library, once, which takes some minutes'
     fi
     (

@@ -13,32 +13,32 @@ LOADER = importlib.machinery.SourceFileLoader("run", str(TOP / "tools" / "mutant
 run = importlib.util.module_from_spec(importlib.util.spec_from_loader("run", LOADER))
 LOADER.exec_module(run)
 source = run.source
-LIBRARIES = [path.parent.parent for path in sorted((TOP / "crates").glob("*/src/lib.rt"))]
+# boltmarrow_c, each of whose functions is the call of `boltmarrow` with the same arguments, has edits in the gate
+LIBRARIES = [path.parent.parent for path in sorted((TOP / "crates").glob("*/src/lib.rt")) if path.parts[-3] != "boltmarrow_c"]
 CRATES = {path.name for path in (TOP / "crates").iterdir()}
 
 # What the prover prints, cut: `set` fails by itself, `join` by itself and for what it calls, `join_from` for what it
 # calls, `number` and `start_at` have no proof file, and `clear`, `loops` and `gone` have other needs than their proofs
 # answer.
-PRINTED = """crates/rows/proofs/inner/set/Proof.antt:38:14: error: `returns`: as printed, the two types first differ
+PRINTED = """./proofs/inner/set/Answers.antt:38:14: error: `returns`: as printed, the two types first differ
   computed as far as they go, the two types differ only where one has `32` (expected) and the other has `31` (found)
-crates/rows/proofs/inner/set/Proof.antt:46:5: error: `set-spec`: `returns` was not admitted (it has holes)
-crates/rows/proofs/inner/join/Proof.antt:31:16: error: `loop-again`: `search`: no proof of `Inv-loop ..`
+./proofs/inner/set/Answers.antt:46:5: error: `set_spec`: `returns` was not admitted (it has holes)
+./proofs/inner/join/Answers.antt:31:16: error: `loop-i-preserved`: `search`: no proof of `Joining ..`
   was found. Not every way was tried.
-crates/rows/proofs/inner/join/Proof.antt:37:13: error: `returns`: expected type `a`, but this has type `b`
-crates/rows/proofs/inner/join/Proof.antt:41:5: error: `join-spec`: `close` was not admitted (it has holes)
-crates/rows/proofs/inner/join_from/Proof.antt:41:5: error: `join-from-spec`: `close` was not admitted (it has holes)
-crates/rows/proofs/inner/clear/Proof.antt:46:5: error: `clear-spec`: expected type `tie.Need-sub-word`, but this
-crates/rows/proofs/inner/loops/Proof.antt:9:5: error: `Inv-loop`: expected type `a`, but this has type `b`
-crates/rows/proofs/inner/gone/Proof.antt:9:5: error: `mul-at`: `tie.Need-mul-at`: module `x.Tie` has no `Need-mul-at`
+./proofs/inner/join/Answers.antt:37:13: error: `returns`: expected type `a`, but this has type `b`
+./proofs/inner/join_from/Answers.antt:41:5: error: 1 declaration that depends on `close`, which was not admitted, was not checked: x
+./proofs/inner/clear/Answers.antt:46:5: error: `overflow_sub-word`: `goal.overflow_sub-word`: module `Goals` has no `overflow_sub-word`
+./proofs/inner/loops/Invariants.antt:9:5: error: `invariant-loop-i`: expected type `a`, but this has type `b`
+./proofs/inner/gone/Answers.antt:9:5: error: `overflow_mul-at`: `goal.overflow_mul-at`: module `x.Goals` has no `overflow_mul-at`
 fn rows::inner::is_set: proved
 fn rows::inner::set: not proved
 fn rows::inner::join: not proved; it calls `rows::inner::set`, which is not proved
-fn rows::inner::join_from: not proved; it calls `rows::inner::set`, which is not proved
+fn rows::inner::join_from: no proof: it calls `rows::inner::set`, which is not proved
 fn rows::inner::clear: not proved
 fn rows::inner::loops: not proved
 fn rows::inner::gone: not proved
-fn rows::inner::number: no proof: expected `number-spec` in Proof.antt; `search` does not close `returns-2`
-fn rows::inner::start_at: no proof: expected `start-at-spec` in Proof.antt; it calls `rows::inner::set`, which is ..
+fn rows::inner::number: no proof: expected answers in ./proofs/inner/number/Answers.antt; `search` did not prove `returns-2`
+fn rows::inner::start_at: no proof: the borrow checker's part in its proof is not made yet: a call of `rows::inner::set`, which ..
 logic=not-proved
 """
 
@@ -115,7 +115,7 @@ class Verdicts(unittest.TestCase):
         self.assertEqual(verdict("set"), ("refused", "`returns`: expected 32, found 31"))
 
     def test_a_need_of_its_own_is_refused_beside_a_call(self):
-        self.assertEqual(verdict("join"), ("refused", "`loop-again`: search finds no proof; `returns`: "
+        self.assertEqual(verdict("join"), ("refused", "`loop-i-preserved`: search finds no proof; `returns`: "
                                                       "the term does not fit"))
 
     def test_no_need_of_its_own_is_refused(self):

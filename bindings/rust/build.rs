@@ -12,7 +12,7 @@ fn main() {
     let archive = folder.join("libboltmarrow.a");
     assert!(
         archive.is_file(),
-        "{} is missing: `rt staticlib boltmarrow` builds it; BOLTMARROW_LIB names another folder",
+        "{} is missing: bin/library builds it; BOLTMARROW_LIB names another folder",
         archive.display()
     );
     println!("cargo:rerun-if-changed={}", archive.display());

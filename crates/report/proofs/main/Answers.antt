@@ -1,5 +1,4 @@
 use Rattle.std.proofs.Common.{arith, length}
-use Rattle.blocks.proofs.Steps.{taken}
 use Rattle.report.proofs.Printing.{prints}
 use Rattle.report.proofs.main.Goals as goal
 

@@ -1,4 +1,3 @@
-use Prim.Native.Nat.{◌-◌}
 use Rattle.report.proofs.Adding.{lining_start, lining_long, lining_room, lining_on, lining_end}
 use borrow.Author.Rules.{rules}
 use Rattle.report.proofs.rule_lines.Goals as goal

@@ -16,8 +16,8 @@ import re
 import sys
 
 # lemmas whose plain spelling is a definition's, and what they are called
-LAWS = """block-check block-sum blocks-due choices-below cost-cleared cost-is cost-unknown first-is follow-is in_order is-low
-is-prod is-rule least-of length-long line-due line-room one-rule out-due query-due room-is row-view same-state sentence-at
+LAWS = """block-check block-sum blocks-due choices-below cost-cleared cost-unknown in_order
+is-prod is-rule least-of length-long line-due line-room one-rule out-due query-due row-view same-state sentence-at
 unless-due visit-due visited-is well-formed bit-and bit-or asked_is all_plain"""
 OTHER = {name: name.replace("-", "_") + "_law" for name in LAWS.split()}
 
@@ -123,8 +123,10 @@ def turn(path, text, names):
         out.append(SPOKEN.sub(lambda m: prose(m[0], names) if m[0].startswith("--") else WORD.sub(word, m[0]), text[a:e]))
         at = e
     out.append(text[at:])
-    text = "".join(out)
-    return re.sub(r"(?<![^\s{,])(%s) as \1(?![^\s},])" % WORD.pattern, r"\1", text)
+    # an item that would read `x as x` is `x`
+    item = re.compile(r"(?<![^\s{,])(%s) as \1(?![^\s},])" % WORD.pattern)
+    return "".join(m[0] if m[0].startswith("--") or path.endswith(".md") else item.sub(r"\1", m[0])
+                   for m in SPOKEN.finditer("".join(out)))
 
 
 def meets(path, text, names):

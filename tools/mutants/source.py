@@ -5,7 +5,7 @@ import re
 
 HEAD = re.compile(r'^(pub )?(?:extern "C" )?fn (\w+)', re.M)
 TABLE = re.compile(r"^const (\w+): \[\w+; \d+\] = \[\n", re.M)
-USE = re.compile(r"^use ([\w:]+)::(\w+);", re.M)
+USE = re.compile(r"^use ([\w:]+)::(?:(\w+)|\{([^}]*)\});", re.M)
 CALL = re.compile(r"\b((?:\w+::)*)(\w+)\(")
 KINDS = ("operand", "bound", "branch")
 
@@ -67,7 +67,10 @@ def tables(crate):
 
 def calls(function, crates):
     """The full names of what the function's body calls, constructors among them."""
-    used = {name: f"{path}::{name}" for path, name in USE.findall(function.text)}
+    used = {}
+    for path, one, several in USE.findall(function.text):
+        for item in (one or several).split(","):
+            used[item.strip().split("::")[-1]] = f"{path}::{item.strip()}"
     crate = function.name.split("::")[0]
     full = set()
     for path, name in CALL.findall(function.body):

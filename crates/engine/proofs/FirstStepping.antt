@@ -51,9 +51,9 @@ module _ (g : Flat) (p : ℕ) (l : Lent) (ok : Ready g p l) (a e o : ℕ) (h : P
   abbrev m : Marks
   m = marks_of g.rules (length g.costs) l
 
-  first_is_law : Became g.rules (length g.costs) (words (length g.costs)) l.first to (first_visit (denoted g) p m).first
+  first_is : Became g.rules (length g.costs) (words (length g.costs)) l.first to (first_visit (denoted g) p m).first
   unfolding marks_of form
-  first_is_law = rw (h.from, h.to, h.owner) at (raised_became g.rules (length g.costs) (words (length g.costs)) l.first to o _ new (omega arith) w.raised ok.held.first)
+  first_is = rw (h.from, h.to, h.owner) at (raised_became g.rules (length g.costs) (words (length g.costs)) l.first to o _ new (omega arith) w.raised ok.held.first)
 
   null : nullable m.empty ((denoted g).body p) ≡ past
   unfolding form
@@ -72,7 +72,7 @@ module _ (g : Flat) (p : ℕ) (l : Lent) (ok : Ready g p l) (a e o : ℕ) (h : P
 
   pub step_stay : past ≡ false → Stepped (FirstBecame g p l) l new (lent to l.empty)
   step_stay k = record {
-    became = record { first = first_is_law; empty = stays k };
+    became = record { first = first_is; empty = stays k };
     told = λ t q. fresh_not (w.raised.told t) (ap (λ z. z.first) q);
     still = λ t. ap (λ z. lent z l.empty) (w.raised.still t);
   }
@@ -94,7 +94,7 @@ module _ (g : Flat) (p : ℕ) (l : Lent) (ok : Ready g p l) (a e o : ℕ) (h : P
 
     pub step_past : Stepped (FirstBecame g p l) l (new || got) (lent to empty)
     step_past = record {
-      became = record { first = first_is_law; empty = marks_it };
+      became = record { first = first_is; empty = marks_it };
       told = λ t q. elim (or_split new got t) [ inl t ↦ fresh_not (w.raised.told t) (ap (λ z. z.first) q) | inr t ↦ fresh_not (raised.told t) (ap (λ z. z.empty) q) ];
       still = λ t. let s = or_none new got t in ap₂ lent (w.raised.still s.0) (raised.still s.1);
     }

@@ -91,12 +91,12 @@ room_of (follow read) R T l = R * T - marks R T (table_of R T l.first)
 room_of productive R T l = R * 1 - marks R 1 (column (row_of R l.first))
 room_of cost R T l = R * 65537 - sum R (λ r. 65537 - costs_of l.first r)
 
-pub room_is_law : (k : Kind) (g : Flat) (w : WellFormed g) (l : Lent) → (stepping k g w).filling.top - (stepping k g w).filling.climb.size (kind_view k g l) ≡ room_of k g.rules (length g.costs) l
+pub room_is : (k : Kind) (g : Flat) (w : WellFormed g) (l : Lent) → (stepping k g w).filling.top - (stepping k g w).filling.climb.size (kind_view k g l) ≡ room_of k g.rules (length g.costs) l
 unfolding climb first_marked follow_grows productive_marked cost_climb
-room_is_law first g w l = refl
-room_is_law (follow read) g w l = refl
-room_is_law productive g w l = refl
-room_is_law cost g w l = refl
+room_is first g w l = refl
+room_is (follow read) g w l = refl
+room_is productive g w l = refl
+room_is cost g w l = refl
 
 -- what holds after a production's visit, and stays so
 due_made : (k : Kind) (g : Flat) (p : ℕ) (s : Seen k) → Served k g p (makes k g p s)

@@ -14,7 +14,7 @@ use Rattle.grammar.specs.Flat.{Flat}
 use Rattle.tables.proofs.Stepping.{round_start, round_held, round_on, round_end, settle_start, settle_held, settle_inv, settle_on, settle_end, settle_less}
 use Rattle.engine.specs.First.{Lent}
 use Rattle.engine.specs.Kinds.{Kind, kind_view, makes, Keeps, Served, Calm, Ready, Steps, Begun, Rounds, Settled}
-use Rattle.engine.proofs.Instances.{stepping, begun_inv, inv_fit, table_long, row_same, room_of, room_is_law, due_run, due_among, calm_quiet}
+use Rattle.engine.proofs.Instances.{stepping, begun_inv, inv_fit, table_long, row_same, room_of, room_is, due_run, due_among, calm_quiet}
 
 -- the first i productions of a round have had their turn
 pub record Turned (k : Kind) (g : Flat) (down : Bool) (i : ℕ) (l : Lent) (read : List Bool) (more : Bool) (now : Lent) : Type 0 where
@@ -119,7 +119,7 @@ module _ (k : Kind) (g : Flat) (l : Lent) (b : Begun k g l) where
 
       less : x ≡ true → left_of k g.rules (length g.costs) next m.changed < left_of k g.rules (length g.costs) now x
       unfolding left
-      less e = rw (room_is_law k g b.well now, room_is_law k g b.well next) at (settle_less (stepping k g b.well) l b.held (begun_inv k g l b) x now s down m.changed next m.moves e)
+      less e = rw (room_is k g b.well now, room_is k g b.well next) at (settle_less (stepping k g b.well) l b.held (begun_inv k g l b) x now s down m.changed next m.moves e)
 
       pub rounds_less : x ≡ true → left_of k g.rules (length g.costs) next more < left_of k g.rules (length g.costs) now x
       rounds_less e = go more refl

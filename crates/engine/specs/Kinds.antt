@@ -24,7 +24,7 @@ pub data Kind : Type 0 where
 abbrev pub kind_at : ℕ → Reads → Kind
 kind_at n read = cond (eqb n 0) first (cond (eqb n 2) (follow read) (cond (eqb n 3) productive cost))
 
--- a fact of the table alone, and the row beside it was
+-- a fact of the table alone, and the row beside it as it was
 pub record Beside (F : List ℕ → List ℕ → Type 0) (a b : Lent) : Type 0 where
   pub table : F a.first b.first
   pub row : b.empty ≡ a.empty

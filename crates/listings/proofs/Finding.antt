@@ -182,8 +182,8 @@ module _ (g : Flat) (next cost choice counts : List ℕ) (levels r k : ℕ) (ok 
               skipped = below_skip (denoted g) (price g) (costs_of cost) (lists_by g cost levels) r (suc p) (min q (length g.owners)) (omega (arith, above)) (λ j u v. next_between g next cost choice ok.ground r ok.is_rule p x.cheapest after en q f j (omega arith) v)
 
               -- there is a next one, since the productions up to the last hold more than k
-              is_low_law : q < 4096
-              is_low_law = elim (dec_lt q 4096) [
+              is_low : q < 4096
+              is_low = elim (dec_lt q 4096) [
                 | yes l ↦ l
                 | no l ↦
                     let m : min q (length g.owners) ≡ length g.owners = omega (arith, ok.ground.well.sizes.prods_high) in
@@ -195,10 +195,10 @@ module _ (g : Flat) (next cost choice counts : List ℕ) (levels r k : ℕ) (ok 
 
               pub find_on : Finding g cost levels r k q rest to
               find_on =
-                  let l = f.is_prod is_low_law in
+                  let l = f.is_prod is_low in
                   let m : min q (length g.owners) ≡ q = omega arith in
                   record {
-                    cheapest = suits_cheapest (denoted g) (price g) (costs_of cost) r q l (f.costs is_low_law);
+                    cheapest = suits_cheapest (denoted g) (price g) (costs_of cost) r q l (f.costs is_low);
                     number = omega (arith, past, skipped, ap (λ (z : ℕ). length (below (denoted g) (price g) (costs_of cost) (lists_by g cost levels) r z)) m);
                     begun = again;
                   }

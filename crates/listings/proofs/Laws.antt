@@ -64,8 +64,8 @@ module _ (g : Flat) (w : WellFormed g) (r : ℕ) (out : List ℕ) {s t : Outcome
   too_long : (65535 < length word) ⊎ (length out < length word) → Both s t a.out b.out
   too_long h = let p = x.numbers.long l few some h in let q = says.long word expands h in record { said = p.number ∙ sym q.number; left = p.kept ∙ sym q.kept }
 
-  pub first_is_law : Both s t a.out b.out
-  first_is_law = elim (dec_le (length word) 65535) [
+  pub first_is : Both s t a.out b.out
+  first_is = elim (dec_le (length word) 65535) [
     | no h ↦ too_long (inl (omega arith))
     | yes h ↦ elim (dec_le (length word) (length out)) [
       | no k ↦ too_long (inr (omega arith))

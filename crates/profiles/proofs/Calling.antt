@@ -31,7 +31,7 @@ module _ (g : Flat) (follow first empty reached : List ℕ) (c : Checked) (is : 
 
     module _ (o f m s : List ℕ) (d : Tables g (lent o (reads (firsts f m) s))) where
       pub judgeable : Judgeable g (firsts f m) o
-      judgeable = record { well = fillable.well; first_is_law = d.read.firsts; follow_is_law = d.follow }
+      judgeable = record { well = fillable.well; first_is = d.read.firsts; follow_is = d.follow }
 
       pub profile_does : (r : Answer) → Judging g r → Call (profile_due g l) (Judges g) l (verdict_is r) (lent o (reads (firsts f m) s))
       profile_does r j = call_does (verdict_is r) (lent o (reads (firsts f m) s)) (enters c e (is l refl refl refl refl)) (record { verdict = j.verdict; answer = j.answer; judged = j.judged; tables = d })

@@ -51,7 +51,7 @@ module _ (g : Flat) (read : Firsts) (follow : List ℕ) where
   f = follow_in g follow
 
   pub judge_reads : Judgeable g read follow → Readable g read follow
-  judge_reads ok = record { well = ok.well; held = ok.first_is_law.held; follows = ok.follow_is_law.held }
+  judge_reads ok = record { well = ok.well; held = ok.first_is.held; follows = ok.follow_is.held }
 
   -- `judge`
   module _ (ok : Judgeable g read follow) (rule lower : ℕ) (low : LowestIs g read follow 0 rule lower) (n : ℕ) (en : n ≡ g.rules) where
@@ -59,7 +59,7 @@ module _ (g : Flat) (read : Firsts) (follow : List ℕ) where
     judge_passes le = record {
       verdict = passes;
       answer = refl;
-      judged = none_passes (denoted g) (proper g ok.well) m ok.first_is_law.exact f ok.follow_is_law.exact rule (lowest_passes (denoted g) m f rule lower low (omega arith));
+      judged = none_passes (denoted g) (proper g ok.well) m ok.first_is.exact f ok.follow_is.exact rule (lowest_passes (denoted g) m f rule lower low (omega arith));
     }
 
     pub judge_clashes : rule < n → Clashing g read follow rule lower
@@ -97,6 +97,6 @@ module _ (g : Flat) (read : Firsts) (follow : List ℕ) where
         clash_is = record {
           verdict = clashes rule lower q t;
           answer = refl;
-          judged = found_least (denoted g) (proper g ok.judges.well) m ok.judges.first_is_law.exact f ok.judges.follow_is_law.exact rule lower q t
+          judged = found_least (denoted g) (proper g ok.judges.well) m ok.judges.first_is.exact f ok.judges.follow_is.exact rule lower q t
               (record { rule = lowest_rule (denoted g) m f rule lower ok.low ok.is_rule; low = lowest_low (denoted g) m f rule lower ok.low ok.is_rule; high = high; token = token });
         }

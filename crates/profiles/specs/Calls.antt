@@ -39,8 +39,8 @@ Profile g follow first empty reached r follow' first' empty' reached' =
 -- what judging asks below the public call: a well-formed grammar, finished tables
 pub record Judgeable (g : Flat) (read : Firsts) (follow : List ℕ) : Type 0 where
   pub well : WellFormed g
-  pub first_is_law : FirstDefined g read
-  pub follow_is_law : Defined g follow
+  pub first_is : FirstDefined g read
+  pub follow_is : Defined g follow
 
 -- and to name the clash, whose rule and lower production are the least
 pub record Clashing (g : Flat) (read : Firsts) (follow : List ℕ) (rule lower : ℕ) : Type 0 where

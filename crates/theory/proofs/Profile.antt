@@ -178,14 +178,14 @@ module _ (g : Grammar) (ok : Proper g) (m : Marks) (h : FirstExact g m) (f : Tab
   none_passes n b = passing (λ r p q t c. true≢false (sym (passes_rule c) ∙ b.none refl r (clash_rule g ok c)))
 
   module _ (r p q t : ℕ) (b : Found g m f r p q t) where
-    is_low_law : (g.owner p ≡ r) × (some g.prods (pair_of g m f p) ≡ true)
-    is_low_law = let s = and_split (eqb (g.owner p) r) _ (b.low.passes refl) in (eqb-true (g.owner p) r s.0, s.1)
+    is_low : (g.owner p ≡ r) × (some g.prods (pair_of g m f p) ≡ true)
+    is_low = let s = and_split (eqb (g.owner p) r) _ (b.low.passes refl) in (eqb-true (g.owner p) r s.0, s.1)
 
     is_pair : Pair g r p q
     is_pair =
         let s = and_split (ltb p q && eqb (g.owner q) (g.owner p)) _ (b.high.passes refl) in
         let u = and_split (ltb p q) _ s.0 in
-        record { rises = ltb-true p q u.0; is_prod = b.high.below refl; lower = is_low_law.0; higher = eqb-true (g.owner q) (g.owner p) u.1 ∙ is_low_law.0 }
+        record { rises = ltb-true p q u.0; is_prod = b.high.below refl; lower = is_low.0; higher = eqb-true (g.owner q) (g.owner p) u.1 ∙ is_low.0 }
 
     earlier : (r' p' q' t' : ℕ) → Clash g r' p' q' t' → Before r' p' q' t' r p q t → ⊥
     earlier r' p' q' t' c (inl l) = true≢false (sym (passes_rule c) ∙ b.rule.first refl r' l)

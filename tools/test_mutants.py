@@ -90,12 +90,28 @@ class Sources(unittest.TestCase):
     def test_calls_are_followed_within_the_crate(self):
         found = source.functions(TOP / "crates" / "grammar")
         self.assertEqual(source.reaches("grammar::inner::prod_at", found, CRATES),
-                         {"grammar::inner::prod_at", "grammar::inner::start_at", "grammar::inner::wide"})
+                         {"grammar::inner::prod_at", "grammar::inner::start_at"})
 
     def test_a_name_of_another_crate_is_not_taken_for_an_own_one(self):
         found = source.functions(TOP / "crates" / "follows")
         self.assertNotIn("follows::clear", source.reaches("follows::fill", found, CRATES))
         self.assertIn("follows::inner::begin", source.reaches("follows::fill", found, CRATES))
+
+    def test_a_method_of_an_impl_is_named_by_its_type_and_trait(self):
+        found = source.functions(TOP / "crates" / "grammar")
+        self.assertIn("Refusal::Sizes => 1", found["grammar::refusal::U16FromRefusal::from"].body)
+        self.assertIn("grammar::refusal::RefusalDisplay::fmt", found)
+        self.assertIn("boltmarrow::UnitValue::value", source.functions(TOP / "crates" / "boltmarrow"))
+        found = source.functions(TOP / "crates" / "engine")
+        self.assertIn("is_plain(g, p)", found["engine::inner::first::FirstTable::step"].body)
+        self.assertIn("self.reached", found["engine::inner::follow::FollowTable::step"].body)  # of an impl with a lifetime
+        found = source.functions(TOP / "crates" / "jobs")
+        self.assertIn("JOB_FIRST =>", found["jobs::kind::KindTryFromU16::try_from"].body)  # of a trait with a type
+
+    def test_a_method_of_an_impl_is_tried_alone(self):
+        for group in run.Crate("grammar").groups:
+            if any(e.function == "grammar::refusal::U16FromRefusal::from" for e in group):
+                self.assertEqual(len(group), 1)
 
     def test_an_old_text_that_is_not_there_once_is_refused(self):
         found = source.functions(TOP / "crates" / "rows")

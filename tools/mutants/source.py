@@ -4,6 +4,8 @@ import pathlib
 import re
 
 HEAD = re.compile(r'^(pub )?(?:extern "C" )?fn (\w+)', re.M)
+IMPL = re.compile(r"^impl(?:<'\w+>)? (?:\w+::)*(\w+)(?:<(\w+)>)? for (\w+|\(\))(?:<'\w+>)? \{\n", re.M)
+METHOD = re.compile(r"^    fn (\w+)", re.M)
 TABLE = re.compile(r"^const (\w+): \[\w+; \d+\] = \[\n", re.M)
 USE = re.compile(r"^use ([\w:]+)::(?:(\w+)|\{([^}]*)\});", re.M)
 CALL = re.compile(r"\b((?:\w+::)*)(\w+)\(")
@@ -19,6 +21,7 @@ class Function:
     text: str
     start: int
     end: int
+    method: bool = False
 
     @property
     def body(self):
@@ -51,6 +54,22 @@ def functions(crate):
             name = f"{module}::{head.group(2)}"
             found[name] = Function(name, path.relative_to(crate), bool(head.group(1)), text,
                                    start, text.index("\n}\n", start - 1) + 1)
+        found |= methods(path.relative_to(crate), module, text)
+    return found
+
+
+def methods(path, module, text):
+    """The methods of a file's impls of traits, by name: U16FromRefusal::from is what `impl From<Refusal> for u16` has."""
+    found = {}
+    for impl in IMPL.finditer(text):
+        trait, of, to = impl.groups()
+        of = of and of[0].upper() + of[1:]
+        to = "Unit" if to == "()" else to[0].upper() + to[1:]
+        end = text.index("\n}\n", impl.end() - 1)
+        for head in METHOD.finditer(text, impl.end(), end):
+            start = text.index("{\n", head.end()) + 2
+            name = f"{module}::{to}{trait}{of or ''}::{head.group(1)}"
+            found[name] = Function(name, path, False, text, start, text.index("\n    }\n", start - 1) + 1, True)
     return found
 
 

@@ -1,4 +1,5 @@
 pub mod Lists
+pub mod Chains
 pub mod Framing
 pub mod Coding
 pub mod Steps

@@ -9,11 +9,13 @@ use Rattle.grammar.specs.Outcome.{Outcome, answers, refused, unless}
 use Rattle.grammar.specs.Well.{WellFormed}
 use Rattle.grammar.proofs.Outcomes.{not_both, refused_one}
 use Rattle.blocks.specs.declared.Counts.{Counts}
-use Rattle.blocks.specs.declared.Reading.{Reading}
+use Rattle.std.specs.Prelude.{Result}
+use Rattle.grammar.specs.declared.refusal.Refusal.{Refusal}
+use Rattle.grammar.specs.Lent.{outcome_of}
 use Rattle.blocks.specs.Layout.{counts_of, grammar_of}
 use Rattle.blocks.specs.Refusals.{file_wrong, checks_differ, numbers_differ, counts_out, blocks_wrong, token_free}
 use Rattle.blocks.specs.Steps.{Fronts, fronts}
-use Rattle.blocks.specs.Reading.{Lists, lists, filled, reading_is, unless_file, file_due, read_due, read_of, Read}
+use Rattle.blocks.specs.Reading.{Lists, lists, filled, unless_file, file_due, read_due, read_of, Read}
 use Rattle.blocks.specs.Conditions.{Long, Limited}
 use Rattle.blocks.proofs.Conditions.{if_long, whole_if}
 use Rattle.blocks.proofs.Answering.{fronts_long, fronts_hold}
@@ -54,18 +56,18 @@ pub record Held (file : List ℕ) (c : Counts) (owners starts symbols costs : Li
   pub long : Fronts c owners starts symbols costs
   pub holds : fronts c owners starts symbols costs ≡ grammar_of file c
 
-module _ (file : List ℕ) (m : Lists) (long : Long m) (owners starts symbols costs : List ℕ) (r : Reading) (x : Read file m r (lists owners starts symbols costs)) where
+module _ (file : List ℕ) (m : Lists) (long : Long m) (owners starts symbols costs : List ℕ) (r : Result Counts Refusal) (x : Read file m r (lists owners starts symbols costs)) where
   own : read_due file m ≡ file_due file
   own = rw (if_long m long)
 
-  pub read_says : reading_is r ≡ read_of file
+  pub read_says : outcome_of r ≡ read_of file
   read_says = go (file_due file) refl
     where
-      go : (o : Outcome (Unit {0})) → file_due file ≡ o → reading_is r ≡ read_of file
+      go : (o : Outcome (Unit {0})) → file_due file ≡ o → outcome_of r ≡ read_of file
       go (answers tt) e = (x.does (own ∙ e)).answer ∙ sym (file_goes _ file e)
       go (refused n) e = x.refuses n (own ∙ e) ∙ sym (file_ends _ file n e)
 
-  pub read_holds : (c : Counts) → reading_is r ≡ answers c → Held file c owners starts symbols costs
+  pub read_holds : (c : Counts) → outcome_of r ≡ answers c → Held file c owners starts symbols costs
   read_holds c e =
       let h = (counts_given file m x c).0 e in
       let l = left file m x h.0 ∙ ap (λ k. filled (grammar_of file k) m) h.2 in

@@ -1,19 +1,14 @@
 -- The file reader: its refusals in order, what it fills, and what it answers.
-use Rattle.std.specs.Prelude.{List, ◌++◌, ◌≡◌, ℕ, length, drop}
+use Rattle.std.specs.Prelude.{Result, List, ◌++◌, ◌≡◌, ℕ, length, drop}
 use Rattle.grammar.specs.Flat.{Flat}
-use Rattle.grammar.specs.Outcome.{Outcome, answers, refused, unless}
+use Rattle.grammar.specs.Outcome.{Outcome, answers, unless}
 use Rattle.grammar.specs.Refusals.{unless_due}
 use Rattle.tables.specs.Call.{Call}
 use Rattle.blocks.specs.declared.Counts.{Counts}
-use Rattle.blocks.specs.declared.Reading.{Reading}
-use Rattle.blocks.specs.declared.Reading.TheVariants.{Counts as Given, Refused}
+use Rattle.grammar.specs.Lent.{outcome_of}
+use Rattle.grammar.specs.declared.refusal.Refusal.{Refusal}
 use Rattle.blocks.specs.Layout.{counts_of, grammar_of}
 use Rattle.blocks.specs.Refusals.{lists_wrong, file_wrong, checks_differ, numbers_differ, counts_out, blocks_wrong, token_free}
-
--- the cases of the answer: the version with R, T, P and N, or the refusal
-abbrev pub reading_is : Reading → Outcome Counts
-reading_is (Given c) = answers c
-reading_is (Refused n) = refused n
 
 -- the four lent lists
 pub record Lists : Type 0 where
@@ -60,5 +55,5 @@ pub record Reads (file : List ℕ) (before : Lists) (said : Outcome Counts) (aft
   pub left : after ≡ filled (grammar_of file (counts_of file)) before
 
 -- the promise
-abbrev pub Read : List ℕ → Lists → Reading → Lists → Type 0
-Read file before r after = Call (read_due file before) (Reads file before) before (reading_is r) after
+abbrev pub Read : List ℕ → Lists → Result Counts Refusal → Lists → Type 0
+Read file before r after = Call (read_due file before) (Reads file before) before (outcome_of r) after

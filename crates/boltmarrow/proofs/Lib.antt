@@ -1,4 +1,3 @@
 pub mod Produced
 pub mod Determined
 pub mod Told
-pub mod Showing

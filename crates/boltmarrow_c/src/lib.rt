@@ -3,9 +3,9 @@
 
 ghost use Rattle.std.specs.Prelude.{◌≡◌};
 ghost use Rattle.grammar.specs.Flat.{flat};
+ghost use Rattle.grammar.specs.Lent.{outcome_of};
 ghost use Rattle.grammar.specs.Outcome.{answers};
-ghost use Rattle.grammar.specs.Production.{checked_is, check_of, length_is};
-ghost use Rattle.tables.specs.Answers.{asked_is};
+ghost use Rattle.grammar.specs.Production.{check_of};
 ghost use Rattle.tables.specs.Queries.{is_set_of, is_rule_set_of};
 ghost use Rattle.firsts.specs.Calls.{Clear as FirstClear, Visit as FirstVisit, Fill as FirstFill};
 ghost use Rattle.paths.specs.Calls.{HasPath};
@@ -21,10 +21,11 @@ ghost use Rattle.listings.specs.Calls.{CountMinSentences, MinSentenceAt};
 ghost use Rattle.blocks.specs.Reading.{lists, Read};
 ghost use Rattle.blocks.specs.Writing.{Write};
 ghost use Rattle.house.specs.Calls.{FillFirst as HouseFillFirst, is_first_of, is_empty_of, FillCost as HouseFillCost, MinCost, CheapestRow};
-ghost use Rattle.boltmarrow.specs.Exports.{answered_with, refused_with, checked_answer, asked_answer, visited_answer, filled_answer, cost_answer, length_answer, counted_answer, written_answer, refusal_of, stretch_of, counts_answer, verdict_answer, Says};
-ghost use Rattle.boltmarrow.specs.Slices.{yes_of, left_of, SliceSays};
+ghost use Rattle.boltmarrow.specs.Exports.{done_answer, test_answer, number_answer, stretch_of, counts_answer, verdict_answer, Says};
+ghost use Rattle.boltmarrow.specs.Slices.{SliceSays};
 
 use boltmarrow::{Answer, Counts, Job, Stretch, Verdict};
+use grammar::Grammar;
 
 // The lowest refusal due of 1 to 6.
 #[unsafe(no_mangle)]
@@ -35,9 +36,15 @@ pub extern "C" fn boltmarrow_check(
     symbols: &[u16],
     costs: &[u8],
 ) -> Answer
-    ensures { Says (λ a. checked_is a ≡ check_of (flat rules owners.now starts.now symbols.now costs.now)) checked_answer result }
+    ensures { Says (λ a. outcome_of a ≡ check_of (flat rules owners.now starts.now symbols.now costs.now)) done_answer result }
 {
-    boltmarrow::boltmarrow_check(rules, owners, starts, symbols, costs)
+    boltmarrow::boltmarrow_check(&Grammar {
+        rules,
+        owners,
+        starts,
+        symbols,
+        costs,
+    })
 }
 
 // Where a production's symbols stand in the symbol list, and how many they are. Refusals 1 to 6, 11.
@@ -52,7 +59,16 @@ pub extern "C" fn boltmarrow_production(
 ) -> Stretch
     ensures { result ≡ stretch_of (flat rules owners.now starts.now symbols.now costs.now) prod }
 {
-    boltmarrow::boltmarrow_production(rules, owners, starts, symbols, costs, prod)
+    boltmarrow::boltmarrow_production(
+        &Grammar {
+            rules,
+            owners,
+            starts,
+            symbols,
+            costs,
+        },
+        prod,
+    )
 }
 
 // Whether a rule is marked for a token in a table of R rows. Refusals 1 to 7, 9, 10.
@@ -67,9 +83,20 @@ pub extern "C" fn boltmarrow_mark(
     rule: u16,
     token: u16,
 ) -> Answer
-    ensures { Says (λ a. asked_is a ≡ is_set_of (flat rules owners.now starts.now symbols.now costs.now) table.now rule token) asked_answer result }
+    ensures { Says (λ a. outcome_of a ≡ is_set_of (flat rules owners.now starts.now symbols.now costs.now) table.now rule token) test_answer result }
 {
-    boltmarrow::boltmarrow_mark(rules, owners, starts, symbols, costs, table, rule, token)
+    boltmarrow::boltmarrow_mark(
+        &Grammar {
+            rules,
+            owners,
+            starts,
+            symbols,
+            costs,
+        },
+        table,
+        rule,
+        token,
+    )
 }
 
 // Whether a rule is marked in a table of one row. Refusals 1 to 7, 9.
@@ -83,9 +110,19 @@ pub extern "C" fn boltmarrow_rule_mark(
     table: &[u32],
     rule: u16,
 ) -> Answer
-    ensures { Says (λ a. asked_is a ≡ is_rule_set_of (flat rules owners.now starts.now symbols.now costs.now) table.now rule) asked_answer result }
+    ensures { Says (λ a. outcome_of a ≡ is_rule_set_of (flat rules owners.now starts.now symbols.now costs.now) table.now rule) test_answer result }
 {
-    boltmarrow::boltmarrow_rule_mark(rules, owners, starts, symbols, costs, table, rule)
+    boltmarrow::boltmarrow_rule_mark(
+        &Grammar {
+            rules,
+            owners,
+            starts,
+            symbols,
+            costs,
+        },
+        table,
+        rule,
+    )
 }
 
 // Sets FIRST and EMPTY to zero. Refusals 1 to 7.
@@ -99,9 +136,19 @@ pub extern "C" fn boltmarrow_first_clear(
     first: &mut [u32],
     empty: &mut [u32],
 ) -> Answer
-    ensures { Says (λ a. FirstClear (flat rules owners.now starts.now symbols.now costs.now) first.old empty.old a first.new empty.new) filled_answer result }
+    ensures { Says (λ a. FirstClear (flat rules owners.now starts.now symbols.now costs.now) first.old empty.old a first.new empty.new) done_answer result }
 {
-    boltmarrow::boltmarrow_first_clear(rules, owners, starts, symbols, costs, first, empty)
+    boltmarrow::boltmarrow_first_clear(
+        &Grammar {
+            rules,
+            owners,
+            starts,
+            symbols,
+            costs,
+        },
+        first,
+        empty,
+    )
 }
 
 // One production's step of FIRST and EMPTY; whether a table changed. Refusals 1 to 7, 11.
@@ -116,9 +163,20 @@ pub extern "C" fn boltmarrow_first_visit(
     first: &mut [u32],
     empty: &mut [u32],
 ) -> Answer
-    ensures { Says (λ a. FirstVisit (flat rules owners.now starts.now symbols.now costs.now) prod first.old empty.old a first.new empty.new) visited_answer result }
+    ensures { Says (λ a. FirstVisit (flat rules owners.now starts.now symbols.now costs.now) prod first.old empty.old a first.new empty.new) test_answer result }
 {
-    boltmarrow::boltmarrow_first_visit(rules, owners, starts, symbols, costs, prod, first, empty)
+    boltmarrow::boltmarrow_first_visit(
+        &Grammar {
+            rules,
+            owners,
+            starts,
+            symbols,
+            costs,
+        },
+        prod,
+        first,
+        empty,
+    )
 }
 
 // Leaves FIRST and EMPTY. Refusals 1 to 7.
@@ -132,9 +190,19 @@ pub extern "C" fn boltmarrow_first_fill(
     first: &mut [u32],
     empty: &mut [u32],
 ) -> Answer
-    ensures { Says (λ a. FirstFill (flat rules owners.now starts.now symbols.now costs.now) first.old empty.old a first.new empty.new) filled_answer result }
+    ensures { Says (λ a. FirstFill (flat rules owners.now starts.now symbols.now costs.now) first.old empty.old a first.new empty.new) done_answer result }
 {
-    boltmarrow::boltmarrow_first_fill(rules, owners, starts, symbols, costs, first, empty)
+    boltmarrow::boltmarrow_first_fill(
+        &Grammar {
+            rules,
+            owners,
+            starts,
+            symbols,
+            costs,
+        },
+        first,
+        empty,
+    )
 }
 
 // Whether there is a path from a rule to another. Refusals 1 to 6, 9.
@@ -148,9 +216,19 @@ pub extern "C" fn boltmarrow_has_path(
     from: u16,
     to: u16,
 ) -> Answer
-    ensures { Says (λ a. HasPath (flat rules owners.now starts.now symbols.now costs.now) from to a) asked_answer result }
+    ensures { Says (λ a. HasPath (flat rules owners.now starts.now symbols.now costs.now) from to a) test_answer result }
 {
-    boltmarrow::boltmarrow_has_path(rules, owners, starts, symbols, costs, from, to)
+    boltmarrow::boltmarrow_has_path(
+        &Grammar {
+            rules,
+            owners,
+            starts,
+            symbols,
+            costs,
+        },
+        from,
+        to,
+    )
 }
 
 // Sets PRODUCTIVE to zero. Refusals 1 to 7.
@@ -163,9 +241,18 @@ pub extern "C" fn boltmarrow_productive_clear(
     costs: &[u8],
     productive: &mut [u32],
 ) -> Answer
-    ensures { Says (λ a. ClearProductive (flat rules owners.now starts.now symbols.now costs.now) productive.old a productive.new) filled_answer result }
+    ensures { Says (λ a. ClearProductive (flat rules owners.now starts.now symbols.now costs.now) productive.old a productive.new) done_answer result }
 {
-    boltmarrow::boltmarrow_productive_clear(rules, owners, starts, symbols, costs, productive)
+    boltmarrow::boltmarrow_productive_clear(
+        &Grammar {
+            rules,
+            owners,
+            starts,
+            symbols,
+            costs,
+        },
+        productive,
+    )
 }
 
 // One production's step of PRODUCTIVE; whether the table changed. Refusals 1 to 7, 11.
@@ -179,9 +266,19 @@ pub extern "C" fn boltmarrow_productive_visit(
     prod: u16,
     productive: &mut [u32],
 ) -> Answer
-    ensures { Says (λ a. VisitProductive (flat rules owners.now starts.now symbols.now costs.now) prod productive.old a productive.new) visited_answer result }
+    ensures { Says (λ a. VisitProductive (flat rules owners.now starts.now symbols.now costs.now) prod productive.old a productive.new) test_answer result }
 {
-    boltmarrow::boltmarrow_productive_visit(rules, owners, starts, symbols, costs, prod, productive)
+    boltmarrow::boltmarrow_productive_visit(
+        &Grammar {
+            rules,
+            owners,
+            starts,
+            symbols,
+            costs,
+        },
+        prod,
+        productive,
+    )
 }
 
 // Leaves PRODUCTIVE. Refusals 1 to 7.
@@ -194,9 +291,18 @@ pub extern "C" fn boltmarrow_productive_fill(
     costs: &[u8],
     productive: &mut [u32],
 ) -> Answer
-    ensures { Says (λ a. FillProductive (flat rules owners.now starts.now symbols.now costs.now) productive.old a productive.new) filled_answer result }
+    ensures { Says (λ a. FillProductive (flat rules owners.now starts.now symbols.now costs.now) productive.old a productive.new) done_answer result }
 {
-    boltmarrow::boltmarrow_productive_fill(rules, owners, starts, symbols, costs, productive)
+    boltmarrow::boltmarrow_productive_fill(
+        &Grammar {
+            rules,
+            owners,
+            starts,
+            symbols,
+            costs,
+        },
+        productive,
+    )
 }
 
 // Sets every entry of COST to 65537, none known. Refusals 1 to 7.
@@ -209,9 +315,18 @@ pub extern "C" fn boltmarrow_cost_clear(
     costs: &[u8],
     cost: &mut [u32],
 ) -> Answer
-    ensures { Says (λ a. CostClear (flat rules owners.now starts.now symbols.now costs.now) cost.old a cost.new) filled_answer result }
+    ensures { Says (λ a. CostClear (flat rules owners.now starts.now symbols.now costs.now) cost.old a cost.new) done_answer result }
 {
-    boltmarrow::boltmarrow_cost_clear(rules, owners, starts, symbols, costs, cost)
+    boltmarrow::boltmarrow_cost_clear(
+        &Grammar {
+            rules,
+            owners,
+            starts,
+            symbols,
+            costs,
+        },
+        cost,
+    )
 }
 
 // One production's step of COST; whether the table changed. Refusals 1 to 7, 11.
@@ -225,9 +340,19 @@ pub extern "C" fn boltmarrow_cost_visit(
     prod: u16,
     cost: &mut [u32],
 ) -> Answer
-    ensures { Says (λ a. CostVisit (flat rules owners.now starts.now symbols.now costs.now) prod cost.old a cost.new) visited_answer result }
+    ensures { Says (λ a. CostVisit (flat rules owners.now starts.now symbols.now costs.now) prod cost.old a cost.new) test_answer result }
 {
-    boltmarrow::boltmarrow_cost_visit(rules, owners, starts, symbols, costs, prod, cost)
+    boltmarrow::boltmarrow_cost_visit(
+        &Grammar {
+            rules,
+            owners,
+            starts,
+            symbols,
+            costs,
+        },
+        prod,
+        cost,
+    )
 }
 
 // Leaves COST. Refusals 1 to 7.
@@ -240,9 +365,18 @@ pub extern "C" fn boltmarrow_cost_fill(
     costs: &[u8],
     cost: &mut [u32],
 ) -> Answer
-    ensures { Says (λ a. CostFill (flat rules owners.now starts.now symbols.now costs.now) cost.old a cost.new) filled_answer result }
+    ensures { Says (λ a. CostFill (flat rules owners.now starts.now symbols.now costs.now) cost.old a cost.new) done_answer result }
 {
-    boltmarrow::boltmarrow_cost_fill(rules, owners, starts, symbols, costs, cost)
+    boltmarrow::boltmarrow_cost_fill(
+        &Grammar {
+            rules,
+            owners,
+            starts,
+            symbols,
+            costs,
+        },
+        cost,
+    )
 }
 
 // The least cost of a sentence of a rule; fills COST. Refusals 1 to 7, 9, 12, 13.
@@ -256,9 +390,19 @@ pub extern "C" fn boltmarrow_min_sentence_cost(
     rule: u16,
     cost: &mut [u32],
 ) -> Answer
-    ensures { Says (λ a. MinSentenceCost (flat rules owners.now starts.now symbols.now costs.now) rule cost.old a cost.new) cost_answer result }
+    ensures { Says (λ a. MinSentenceCost (flat rules owners.now starts.now symbols.now costs.now) rule cost.old a cost.new) number_answer result }
 {
-    boltmarrow::boltmarrow_min_sentence_cost(rules, owners, starts, symbols, costs, rule, cost)
+    boltmarrow::boltmarrow_min_sentence_cost(
+        &Grammar {
+            rules,
+            owners,
+            starts,
+            symbols,
+            costs,
+        },
+        rule,
+        cost,
+    )
 }
 
 // Leaves the dearest costs. Refusals 1 to 7.
@@ -271,9 +415,18 @@ pub extern "C" fn boltmarrow_dearest_fill(
     costs: &[u8],
     dearest: &mut [u32],
 ) -> Answer
-    ensures { Says (λ a. DearestFill (flat rules owners.now starts.now symbols.now costs.now) dearest.old a dearest.new) filled_answer result }
+    ensures { Says (λ a. DearestFill (flat rules owners.now starts.now symbols.now costs.now) dearest.old a dearest.new) done_answer result }
 {
-    boltmarrow::boltmarrow_dearest_fill(rules, owners, starts, symbols, costs, dearest)
+    boltmarrow::boltmarrow_dearest_fill(
+        &Grammar {
+            rules,
+            owners,
+            starts,
+            symbols,
+            costs,
+        },
+        dearest,
+    )
 }
 
 // Leaves the reached rules: rule 0 and those that have a path from it. Refusals 1 to 7.
@@ -286,9 +439,18 @@ pub extern "C" fn boltmarrow_reached_fill(
     costs: &[u8],
     reached: &mut [u32],
 ) -> Answer
-    ensures { Says (λ a. FillReached (flat rules owners.now starts.now symbols.now costs.now) reached.old a reached.new) filled_answer result }
+    ensures { Says (λ a. FillReached (flat rules owners.now starts.now symbols.now costs.now) reached.old a reached.new) done_answer result }
 {
-    boltmarrow::boltmarrow_reached_fill(rules, owners, starts, symbols, costs, reached)
+    boltmarrow::boltmarrow_reached_fill(
+        &Grammar {
+            rules,
+            owners,
+            starts,
+            symbols,
+            costs,
+        },
+        reached,
+    )
 }
 
 // Clears FOLLOW: it holds rule 0 with eof, and nothing else. Refusals 1 to 7.
@@ -301,9 +463,18 @@ pub extern "C" fn boltmarrow_follow_clear(
     costs: &[u8],
     follow: &mut [u32],
 ) -> Answer
-    ensures { Says (λ a. FollowClear (flat rules owners.now starts.now symbols.now costs.now) follow.old a follow.new) filled_answer result }
+    ensures { Says (λ a. FollowClear (flat rules owners.now starts.now symbols.now costs.now) follow.old a follow.new) done_answer result }
 {
-    boltmarrow::boltmarrow_follow_clear(rules, owners, starts, symbols, costs, follow)
+    boltmarrow::boltmarrow_follow_clear(
+        &Grammar {
+            rules,
+            owners,
+            starts,
+            symbols,
+            costs,
+        },
+        follow,
+    )
 }
 
 // One production's step of FOLLOW, over the rules marked reached, in mode 2, which alone is taken; whether the
@@ -322,10 +493,22 @@ pub extern "C" fn boltmarrow_follow_visit(
     empty: &[u32],
     reached: &[u32],
 ) -> Answer
-    ensures { Says (λ a. FollowVisit (flat rules owners.now starts.now symbols.now costs.now) mode prod follow.old first.now empty.now reached.now a follow.new) visited_answer result }
+    ensures { Says (λ a. FollowVisit (flat rules owners.now starts.now symbols.now costs.now) mode prod follow.old first.now empty.now reached.now a follow.new) test_answer result }
 {
     boltmarrow::boltmarrow_follow_visit(
-        rules, owners, starts, symbols, costs, mode, prod, follow, first, empty, reached,
+        &Grammar {
+            rules,
+            owners,
+            starts,
+            symbols,
+            costs,
+        },
+        mode,
+        prod,
+        follow,
+        first,
+        empty,
+        reached,
     )
 }
 
@@ -343,10 +526,21 @@ pub extern "C" fn boltmarrow_follow_fill(
     empty: &mut [u32],
     reached: &mut [u32],
 ) -> Answer
-    ensures { Says (λ a. FollowFill (flat rules owners.now starts.now symbols.now costs.now) mode follow.old first.old empty.old reached.old a follow.new first.new empty.new reached.new) filled_answer result }
+    ensures { Says (λ a. FollowFill (flat rules owners.now starts.now symbols.now costs.now) mode follow.old first.old empty.old reached.old a follow.new first.new empty.new reached.new) done_answer result }
 {
     boltmarrow::boltmarrow_follow_fill(
-        rules, owners, starts, symbols, costs, mode, follow, first, empty, reached,
+        &Grammar {
+            rules,
+            owners,
+            starts,
+            symbols,
+            costs,
+        },
+        mode,
+        follow,
+        first,
+        empty,
+        reached,
     )
 }
 
@@ -367,7 +561,17 @@ pub extern "C" fn boltmarrow_profile(
     ensures { Says (λ a. Profile (flat rules owners.now starts.now symbols.now costs.now) follow.old first.old empty.old reached.old a follow.new first.new empty.new reached.new) verdict_answer result }
 {
     boltmarrow::boltmarrow_profile(
-        rules, owners, starts, symbols, costs, follow, first, empty, reached,
+        &Grammar {
+            rules,
+            owners,
+            starts,
+            symbols,
+            costs,
+        },
+        follow,
+        first,
+        empty,
+        reached,
     )
 }
 
@@ -392,7 +596,20 @@ pub extern "C" fn boltmarrow_slice(
     ensures { SliceSays (flat rules owners.now starts.now symbols.now costs.now) n job.old (tables first.old empty.old follow.old productive.old cost.old reached.now) result job.new (tables first.new empty.new follow.new productive.new cost.new reached.now) }
 {
     boltmarrow::boltmarrow_slice(
-        job, rules, owners, starts, symbols, costs, n, first, empty, follow, productive, cost,
+        job,
+        &Grammar {
+            rules,
+            owners,
+            starts,
+            symbols,
+            costs,
+        },
+        n,
+        first,
+        empty,
+        follow,
+        productive,
+        cost,
         reached,
     )
 }
@@ -410,10 +627,20 @@ pub extern "C" fn boltmarrow_min_sentence(
     lengths: &mut [u32],
     out: &mut [u16],
 ) -> Answer
-    ensures { Says (λ a. MinSentence (flat rules owners.now starts.now symbols.now costs.now) rule cost.old lengths.old out.old a cost.new lengths.new out.new) length_answer result }
+    ensures { Says (λ a. MinSentence (flat rules owners.now starts.now symbols.now costs.now) rule cost.old lengths.old out.old a cost.new lengths.new out.new) number_answer result }
 {
     boltmarrow::boltmarrow_min_sentence(
-        rules, owners, starts, symbols, costs, rule, cost, lengths, out,
+        &Grammar {
+            rules,
+            owners,
+            starts,
+            symbols,
+            costs,
+        },
+        rule,
+        cost,
+        lengths,
+        out,
     )
 }
 
@@ -431,10 +658,20 @@ pub extern "C" fn boltmarrow_count_min_sentences(
     lengths: &mut [u32],
     counts: &mut [u32],
 ) -> Answer
-    ensures { Says (λ a. CountMinSentences (flat rules owners.now starts.now symbols.now costs.now) rule cost.old lengths.old counts.old a cost.new lengths.new counts.new) counted_answer result }
+    ensures { Says (λ a. CountMinSentences (flat rules owners.now starts.now symbols.now costs.now) rule cost.old lengths.old counts.old a cost.new lengths.new counts.new) number_answer result }
 {
     boltmarrow::boltmarrow_count_min_sentences(
-        rules, owners, starts, symbols, costs, rule, cost, lengths, counts,
+        &Grammar {
+            rules,
+            owners,
+            starts,
+            symbols,
+            costs,
+        },
+        rule,
+        cost,
+        lengths,
+        counts,
     )
 }
 
@@ -454,10 +691,22 @@ pub extern "C" fn boltmarrow_min_sentence_at(
     counts: &mut [u32],
     out: &mut [u16],
 ) -> Answer
-    ensures { Says (λ a. MinSentenceAt (flat rules owners.now starts.now symbols.now costs.now) rule k cost.old lengths.old counts.old out.old a cost.new lengths.new counts.new out.new) length_answer result }
+    ensures { Says (λ a. MinSentenceAt (flat rules owners.now starts.now symbols.now costs.now) rule k cost.old lengths.old counts.old out.old a cost.new lengths.new counts.new out.new) number_answer result }
 {
     boltmarrow::boltmarrow_min_sentence_at(
-        rules, owners, starts, symbols, costs, rule, k, cost, lengths, counts, out,
+        &Grammar {
+            rules,
+            owners,
+            starts,
+            symbols,
+            costs,
+        },
+        rule,
+        k,
+        cost,
+        lengths,
+        counts,
+        out,
     )
 }
 
@@ -488,15 +737,25 @@ pub extern "C" fn boltmarrow_write_blocks(
     version: u16,
     out: &mut [u8],
 ) -> Answer
-    ensures { Says (λ a. Write (flat rules owners.now starts.now symbols.now costs.now) version out.old a out.new) written_answer result }
+    ensures { Says (λ a. Write (flat rules owners.now starts.now symbols.now costs.now) version out.old a out.new) number_answer result }
 {
-    boltmarrow::boltmarrow_write_blocks(rules, owners, starts, symbols, costs, version, out)
+    boltmarrow::boltmarrow_write_blocks(
+        &Grammar {
+            rules,
+            owners,
+            starts,
+            symbols,
+            costs,
+        },
+        version,
+        out,
+    )
 }
 
 // Whether the house grammar is well-formed: it is, and nothing is refused.
 #[unsafe(no_mangle)]
 pub extern "C" fn boltmarrow_house_check() -> Answer
-    ensures { Says (λ c. checked_is c ≡ answers tt) checked_answer result }
+    ensures { Says (λ c. outcome_of c ≡ answers tt) done_answer result }
 {
     boltmarrow::boltmarrow_house_check()
 }
@@ -504,7 +763,7 @@ pub extern "C" fn boltmarrow_house_check() -> Answer
 // Leaves FIRST and EMPTY of the house grammar. Refusal 7.
 #[unsafe(no_mangle)]
 pub extern "C" fn boltmarrow_house_first_fill(first: &mut [u32], empty: &mut [u32]) -> Answer
-    ensures { Says (λ a. HouseFillFirst first.old empty.old a first.new empty.new) filled_answer result }
+    ensures { Says (λ a. HouseFillFirst first.old empty.old a first.new empty.new) done_answer result }
 {
     boltmarrow::boltmarrow_house_first_fill(first, empty)
 }
@@ -512,7 +771,7 @@ pub extern "C" fn boltmarrow_house_first_fill(first: &mut [u32], empty: &mut [u3
 // Whether a token is marked for a rule of the house grammar. Refusals 7, 9, 10.
 #[unsafe(no_mangle)]
 pub extern "C" fn boltmarrow_house_first(first: &[u32], rule: u16, token: u16) -> Answer
-    ensures { Says (λ a. asked_is a ≡ is_first_of first.now rule token) asked_answer result }
+    ensures { Says (λ a. outcome_of a ≡ is_first_of first.now rule token) test_answer result }
 {
     boltmarrow::boltmarrow_house_first(first, rule, token)
 }
@@ -520,7 +779,7 @@ pub extern "C" fn boltmarrow_house_first(first: &[u32], rule: u16, token: u16) -
 // Whether a rule of the house grammar is marked. Refusals 7, 9.
 #[unsafe(no_mangle)]
 pub extern "C" fn boltmarrow_house_empty(empty: &[u32], rule: u16) -> Answer
-    ensures { Says (λ a. asked_is a ≡ is_empty_of empty.now rule) asked_answer result }
+    ensures { Says (λ a. outcome_of a ≡ is_empty_of empty.now rule) test_answer result }
 {
     boltmarrow::boltmarrow_house_empty(empty, rule)
 }
@@ -528,7 +787,7 @@ pub extern "C" fn boltmarrow_house_empty(empty: &[u32], rule: u16) -> Answer
 // Leaves COST of the house grammar. Refusal 7.
 #[unsafe(no_mangle)]
 pub extern "C" fn boltmarrow_house_cost_fill(cost: &mut [u32]) -> Answer
-    ensures { Says (λ a. HouseFillCost cost.old a cost.new) filled_answer result }
+    ensures { Says (λ a. HouseFillCost cost.old a cost.new) done_answer result }
 {
     boltmarrow::boltmarrow_house_cost_fill(cost)
 }
@@ -536,7 +795,7 @@ pub extern "C" fn boltmarrow_house_cost_fill(cost: &mut [u32]) -> Answer
 // The cost of a rule of the house grammar; leaves COST. Refusals 7, 9.
 #[unsafe(no_mangle)]
 pub extern "C" fn boltmarrow_house_cost(rule: u16, cost: &mut [u32]) -> Answer
-    ensures { Says (λ a. MinCost rule cost.old a cost.new) cost_answer result }
+    ensures { Says (λ a. MinCost rule cost.old a cost.new) number_answer result }
 {
     boltmarrow::boltmarrow_house_cost(rule, cost)
 }
@@ -548,7 +807,7 @@ pub extern "C" fn boltmarrow_house_row(
     lengths: &mut [u32],
     out: &mut [u16],
 ) -> Answer
-    ensures { Says (λ a. CheapestRow cost.old lengths.old out.old a cost.new lengths.new out.new) length_answer result }
+    ensures { Says (λ a. CheapestRow cost.old lengths.old out.old a cost.new lengths.new out.new) number_answer result }
 {
     boltmarrow::boltmarrow_house_row(cost, lengths, out)
 }

@@ -1,4 +1,7 @@
 -- What a dearer token does to what two fills leave and to what two cost queries answer.
+use Rattle.grammar.specs.declared.refusal.Refusal.{Refusal}
+use Rattle.std.specs.Prelude.{Result}
+use Rattle.grammar.specs.Lent.{outcome_of}
 use mathlib.Core.List.{List}
 use mathlib.Core.Logic.{◌⊎◌, inl, inr}
 use mathlib.Core.Path.{◌≡◌, sym, ◌∙◌, ap, subst}
@@ -12,14 +15,12 @@ use Rattle.grammar.specs.Flat.{Flat, denoted, price}
 use Rattle.grammar.specs.Outcome.{Outcome, answers, refused}
 use Rattle.grammar.specs.Production.{check_of}
 use Rattle.grammar.specs.Refusals.{unless_due}
-use Rattle.tables.specs.declared.Filled.{Filled}
 use Rattle.tables.specs.Sizes.{numbers_wrong}
 use Rattle.costs.specs.Calls.{fill_due, Fill}
 use Rattle.costs.specs.Defined.{CostDefined}
 use Rattle.costs.specs.Dearer.{OneDearer, Becomes, none, dear, rises, passes}
 use Rattle.engine.specs.Cost.{costs_of}
-use Rattle.costs.specs.Query.{cost_is, query_due, Priced, MinSentenceCost}
-use Rattle.costs.specs.declared.Cost.{Cost as Answer}
+use Rattle.costs.specs.Query.{query_due, Priced, MinSentenceCost}
 
 -- what the query says, by the entry
 abbrev Said : (n : ℕ) → Outcome ℕ → Type 0
@@ -49,7 +50,7 @@ module _ (g : Flat) (t d : ℕ) (h : Flat) (o : OneDearer g t d h) where
   dearer_tables a b x y r = dearer o.up (x.exact r) (subst (λ z. Cost z (price h) r (costs_of b r)) same_grammar (y.exact r))
 
   -- what two fills leave, whatever was lent to them
-  pub dearer_fill : (u v a b : List ℕ) (p q : Filled) → fill_due g (numbers_wrong g.rules u) ≡ answers tt → fill_due h (numbers_wrong h.rules v) ≡ answers tt → Fill g u p a → Fill h v q b
+  pub dearer_fill : (u v a b : List ℕ) (p q : Result (Unit {0}) Refusal) → fill_due g (numbers_wrong g.rules u) ≡ answers tt → fill_due h (numbers_wrong h.rules v) ≡ answers tt → Fill g u p a → Fill h v q b
       → (r : ℕ) → Dearer (denoted g) (price g) t d r (costs_of a r) (costs_of b r)
   dearer_fill u v a b p q du dv x y = dearer_tables a b (x.does du).left (y.does dv).left
 
@@ -68,6 +69,6 @@ module _ (g : Flat) (t d : ℕ) (h : Flat) (o : OneDearer g t d h) where
   becomes r m n s z e (inr (inr x)) (inr (inl y)) = absurd (omega (arith, y.0, e.none x.0))
   becomes r m n s z e (inr (inr x)) (inr (inr y)) = subst (λ u. Becomes g t d r u z) (sym x.1) (subst (λ u. Becomes g t d r (refused 12) u) (sym y.1) none)
 
-  pub dearer_query : (r : ℕ) (u v a b : List ℕ) (p q : Answer) → query_due g r u ≡ answers tt → query_due h r v ≡ answers tt → MinSentenceCost g r u p a → MinSentenceCost h r v q b → Becomes g t d r (cost_is p) (cost_is q)
+  pub dearer_query : (r : ℕ) (u v a b : List ℕ) (p q : Result ℕ Refusal) → query_due g r u ≡ answers tt → query_due h r v ≡ answers tt → MinSentenceCost g r u p a → MinSentenceCost h r v q b → Becomes g t d r (outcome_of p) (outcome_of q)
   dearer_query r u v a b p q du dv x y =
-      let i = x.does du in let j = y.does dv in becomes r _ _ (cost_is p) (cost_is q) (dearer_tables a b i.cost j.cost r) (said_entry g r _ a i) (said_entry h r _ b j)
+      let i = x.does du in let j = y.does dv in becomes r _ _ (outcome_of p) (outcome_of q) (dearer_tables a b i.cost j.cost r) (said_entry g r _ a i) (said_entry h r _ b j)

@@ -1,15 +1,17 @@
 -- What an entry says of its rule: refusals 12 and 13, or that it is the cost.
 use mathlib.Core.Bool.{Bool, true, false, cond}
 use mathlib.Core.List.{List}
-use mathlib.Core.Path.{◌≡◌, refl, sym}
+use mathlib.Core.Path.{◌≡◌, refl, sym, ◌∙◌}
 use Prim.Native.Nat.{ℕ, ◌≤◌, ◌<◌}
 use native.Mathlib.Omega.{arith}
-use lib.Dec.{leb}
-use borrow.Author.Tests.{le-leb, lt-leb, leb-true}
+use lib.Dec.{eqb, leb}
+use borrow.Author.Tests.{le-leb, lt-leb, leb-true, eqb-true, eqb-false}
 use Rattle.theory.specs.Definitions.{Productive, Sentence, cost_of, Cost}
 use Rattle.theory.specs.Grammar.{Grammar}
 use Rattle.theory.proofs.Cost.{cost_twelve, cost_thirteen}
-use Rattle.costs.specs.Query.{entry_due}
+use Rattle.grammar.specs.Outcome.{answers, refused}
+use Rattle.grammar.proofs.Outcomes.{not_both, refused_one}
+use Rattle.costs.specs.Query.{entry_due, entry_refusal}
 
 -- `entry_due`
 pub due_cost : (n : ℕ) → n ≤ 65535 → 0 ≡ entry_due n
@@ -23,6 +25,31 @@ due_dear n l m = rw (lt-leb n 65535 l, le-leb n 65536 m)
 pub due_unknown : (n : ℕ) → 65535 < n → 65536 < n → 12 ≡ entry_due n
 unfolding entry_due
 due_unknown n l m = rw (lt-leb n 65535 l, lt-leb n 65536 m)
+
+-- and what that comes to
+pub refusal_cost : (n : ℕ) → n ≤ 65535 → answers tt ≡ entry_refusal n
+refusal_cost n l = rw (← due_cost n l) refl
+
+pub refusal_dear : (n : ℕ) → 65535 < n → n ≤ 65536 → refused 13 ≡ entry_refusal n
+refusal_dear n l m = rw (← due_dear n l m) refl
+
+pub refusal_unknown : (n : ℕ) → 65535 < n → 65536 < n → refused 12 ≡ entry_refusal n
+refusal_unknown n l m = rw (← due_unknown n l m) refl
+
+-- where it refuses, that is due, and where it goes on nothing is
+pub refusal_due : (n m : ℕ) → refused m ≡ entry_refusal n → (m ≡ entry_due n) × (m ≡ 0 → ⊥)
+refusal_due n m e = go (eqb (entry_due n) 0) refl e
+  where
+    go : (b : Bool) → eqb (entry_due n) 0 ≡ b → refused m ≡ cond b (answers (tt {0})) (refused (entry_due n)) → (m ≡ entry_due n) × (m ≡ 0 → ⊥)
+    go true q f = absurd (not_both (sym f))
+    go false q f = let k : m ≡ entry_due n = refused_one f in (k, λ z. eqb-false (entry_due n) 0 q (sym k ∙ z))
+
+pub refusal_none : (n : ℕ) → answers (tt {0}) ≡ entry_refusal n → 0 ≡ entry_due n
+refusal_none n e = go (eqb (entry_due n) 0) refl e
+  where
+    go : (b : Bool) → eqb (entry_due n) 0 ≡ b → answers (tt {0}) ≡ cond b (answers (tt {0})) (refused (entry_due n)) → 0 ≡ entry_due n
+    go true q f = sym (eqb-true (entry_due n) 0 q)
+    go false q f = absurd (not_both f)
 
 -- none is due of a cost alone
 pub due_none : (n : ℕ) → entry_due n ≡ 0 → n ≤ 65535

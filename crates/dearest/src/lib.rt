@@ -2,12 +2,10 @@
 // grammar.rs, with true answers where the source settles too soon.
 #![tactic(auto)]
 
-ghost use Rattle.grammar.specs.Flat.{flat};
+ghost use Rattle.grammar.specs.Lent.{flat_of};
 ghost use Rattle.dearest.specs.Calls.{Fill};
 
-use grammar::Checked;
-use grammar::inner::number;
-use tables::Filled;
+use grammar::{Grammar, Refusal};
 use tables::inner::numbers_due;
 
 pub mod inner;
@@ -25,20 +23,10 @@ pub const DEAREST_NONE: u32 = 65536;
 pub const DEAREST_ABOVE: u32 = 65537;
 
 // Leaves the dearest costs in the lent numbers, whatever was there before. Refusals 1 to 7.
-pub fn fill(
-    rules: u16,
-    owners: &[u16],
-    starts: &[u16],
-    symbols: &[u16],
-    costs: &[u8],
-    dearest: &mut [u32],
-) -> Filled
-    ensures { Fill (flat rules owners.now starts.now symbols.now costs.now) dearest.old result dearest.new }
+pub fn fill(g: &Grammar, dearest: &mut [u32]) -> Result<(), Refusal>
+    ensures { Fill (flat_of g.now) dearest.old result dearest.new }
 {
-    let c = numbers_due(rules, owners, starts, symbols, costs, dearest.len());
-    let Checked::Well = c else {
-        return Filled::Refused(number(c));
-    };
-    inner::dearest_fill(rules, owners, starts, symbols, costs, dearest);
-    Filled::Done
+    numbers_due(g, dearest.len())?;
+    inner::dearest_fill(g, dearest);
+    Ok(())
 }

@@ -1,3 +1,4 @@
+pub mod Spans
 pub mod FirstStepping
 pub mod FirstWalking
 pub mod FirstMoving
@@ -18,4 +19,4 @@ pub mod Reading
 pub mod Lowering
 pub mod Instances
 pub mod Rounding
-pub mod Numbers
+pub mod Making

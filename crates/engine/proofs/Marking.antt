@@ -1,20 +1,24 @@
--- Whether every rule of a stretch is marked, symbol by symbol.
-use mathlib.Core.Bool.{Bool, true, false, not, ◌&&◌, and-true}
+-- Whether every rule of a stretch is marked: whether each symbol is.
+use mathlib.Core.Bool.{Bool, true, ◌&&◌, and-true}
 use mathlib.Core.List.{List, [], ◌∷◌}
 use mathlib.Core.Path.{◌≡◌, refl, sym, ap, ◌∙◌}
 use Prim.Native.Nat.{ℕ, ◌+◌, ◌-◌, ◌*◌, ◌≤◌, ◌<◌}
 use native.Mathlib.Omega.{arith}
 use lib.ListN.{length}
-use borrow.Author.Tests.{not-true, not-false}
 use Rattle.theory.specs.Grammar.{Sym, tok, rul, Form}
 use Rattle.theory.specs.Visits.{Row, all_marked}
-use Rattle.grammar.specs.Flat.{at, symbol, form}
-use Rattle.grammar.proofs.Forms.{form_done, form_more, symbol_token, symbol_rule}
+use Rattle.theory.proofs.Parts.{part_slice}
+use Rattle.grammar.specs.Flat.{symbol, form}
+use Rattle.std.specs.List.{list_all}
+use Rattle.std.proofs.Common.{map, get_or}
+use Rattle.std.proofs.lemmas.List.{get_or_default}
+use Rattle.grammar.proofs.Forms.{symbol_token, symbol_rule}
 use Rattle.rows.specs.Marks.{place, mark}
 use Rattle.rows.proofs.Marks.{row_in}
 use Rattle.rows.proofs.Row.{row_mark}
 use Rattle.tables.specs.Sizes.{words}
 use Rattle.engine.specs.Productive.{row_of, symbol_marked, SymbolReady, Marking}
+use Rattle.engine.proofs.Spans.{span, span_in, span_is}
 
 -- a form is marked if its first symbol is, and the rest
 all_cons : (m : Row) (x : Sym) (α : Form) → all_marked m (x ∷ α) ≡ (all_marked m (x ∷ []) && all_marked m α)
@@ -34,31 +38,21 @@ module _ (R : ℕ) (row : List ℕ) (s : ℕ) (ok : SymbolReady R row s) (high :
   unfolding symbol_marked
   rule_marked b e = e ∙ rw (ew, ex, symbol_rule s high, and-true (row_of R row (s - 32768))) (sym (row_mark R (words R) row (s - 32768) (omega (arith, ok.rule high))))
 
--- at symbol i: all are marked if all that are left are
-pub record Marked (R : ℕ) (symbols : List ℕ) (a e : ℕ) (row : List ℕ) (i : ℕ) : Type 0 where
-  pub low : a ≤ i
-  pub high : i ≤ e
-  pub rest : all_marked (row_of R row) (form symbols a e) ≡ all_marked (row_of R row) (form symbols i e)
-
+-- each symbol of a stretch can be looked up
 module _ (R T : ℕ) (symbols : List ℕ) (a e : ℕ) (row : List ℕ) (ok : Marking R T symbols a e row) where
-  pub marked_start : Marked R symbols a e row a
-  marked_start = record { low = omega arith; high = ok.rise; rest = refl }
+  pub marked_ready : (k s : ℕ) → k < length (span symbols a e) → s ≡ get_or (span symbols a e) k s → SymbolReady R row s
+  marked_ready k s h is = record {
+    few_rules = ok.few_rules;
+    rule = rw (span_is symbols a e ok.fits k h s (is ∙ get_or_default (span symbols a e) k s 0 h)) ((ok.symbol (a + k) (omega (arith, ok.fits, span_in symbols a e ok.fits k h))).rule);
+    long = ok.long;
+  }
 
-  module _ (i : ℕ) (m : Marked R symbols a e row i) where
-    pub marked_end : e ≤ i → true ≡ all_marked (row_of R row) (form symbols a e)
-    marked_end h = sym (m.rest ∙ rw (form_done symbols i e m.high h))
+-- all rules of a stretch are marked if each symbol is a token or a rule that is marked
+each_symbol : (R : ℕ) (row xs : List ℕ) → list_all (symbol_marked R row) xs ≡ all_marked (row_of R row) (map symbol xs)
+unfolding symbol_marked
+each_symbol R row [] = refl
+each_symbol R row (x ∷ xs) = ap (λ z. all_marked (row_of R row) (symbol x ∷ []) && z) (each_symbol R row xs) ∙ sym (all_cons (row_of R row) (symbol x) (map symbol xs))
 
-    module _ (h : i < e) where
-      pub marked_ready : SymbolReady R row (at symbols i)
-      marked_ready = record { few_rules = ok.few_rules; rule = (ok.symbol i (omega (arith, ok.fits))).rule; long = ok.long }
-
-      module _ (b : Bool) (eb : b ≡ symbol_marked R row (at symbols i)) where
-        left : all_marked (row_of R row) (form symbols i e) ≡ (b && all_marked (row_of R row) (form symbols (i + 1) e))
-        unfolding symbol_marked
-        left = rw (form_more symbols i e h ok.fits) (all_cons (row_of R row) (symbol (at symbols i)) (form symbols (i + 1) e) ∙ ap (λ z. z && all_marked (row_of R row) (form symbols (i + 1) e)) (sym eb))
-
-        pub marked_stop : not b ≡ true → false ≡ all_marked (row_of R row) (form symbols a e)
-        marked_stop k = sym (m.rest ∙ left ∙ rw (not-true b k))
-
-        pub marked_on : not b ≡ false → Marked R symbols a e row (i + 1)
-        marked_on k = record { low = omega (arith, m.low); high = omega arith; rest = m.rest ∙ left ∙ rw (not-false b k) }
+pub marked_each : (R : ℕ) (row symbols : List ℕ) (a e : ℕ) → list_all (symbol_marked R row) (span symbols a e) ≡ all_marked (row_of R row) (form symbols a e)
+unfolding form
+marked_each R row symbols a e = each_symbol R row (span symbols a e) ∙ ap (λ z. all_marked (row_of R row) (map symbol z)) (part_slice a e symbols)

@@ -12,6 +12,7 @@ use lib.Seq.{get_or-set_same, get_or-set_other}
 use Rattle.theory.specs.Visits.{Costs}
 use Rattle.grammar.specs.Flat.{at, form}
 use Rattle.engine.specs.Cost.{costs_of, Agrees, Adds, Readable, ReadsCost, Summable, ReadsSum}
+use Rattle.engine.proofs.Spans.{span, span_in, span_is}
 use Rattle.engine.proofs.Summing.{entry, token_part, rule_part, Summed, summed_start, summed_end, summed_least, summed_unknown, summed_on}
 
 pub adds_none : (read : List Bool) → Adds read read
@@ -53,7 +54,7 @@ module _ (costs cost : List ℕ) (s : ℕ) (read : List Bool) (ok : Readable cos
       same = λ d a. rule_part (at costs) d s n high (e ∙ sym (entry cost x read_rule) ∙ sym (a x (get_or-set_same read x true false read_place)) ∙ ap d ex);
     }
 
--- at symbol i: n is the sum so far, at most `top`, by each table that agrees on what is read by now
+-- before number i of `symbols[a..e]`: n is the sum so far, at most `top`, by each table that agrees on what is read by now
 pub record SummedRead (symbols costs : List ℕ) (a e : ℕ) (cost : List ℕ) (read : List Bool) (top i n : ℕ) (now : List Bool) : Type 0 where
   pub cap : n ≤ top
   pub upto : n ≤ 65536
@@ -62,34 +63,34 @@ pub record SummedRead (symbols costs : List ℕ) (a e : ℕ) (cost : List ℕ) (
 
 -- `sum_to`
 module _ (symbols costs : List ℕ) (a e : ℕ) (cost : List ℕ) (read : List Bool) (top : ℕ) (ok : Summable symbols costs a e cost top read) where
-  pub reading_start : SummedRead symbols costs a e cost read top a 0 read
+  pub reading_start : SummedRead symbols costs a e cost read top 0 0 read
   reading_start = record { cap = omega arith; upto = omega arith; adds = adds_none read; sums = λ d g. summed_start (at costs) d symbols a e ok.pricing.rise ok.pricing.fits }
 
   module _ (i n : ℕ) (now : List Bool) (m : SummedRead symbols costs a e cost read top i n now) where
-    pub reading_end : e ≤ i → ReadsSum top costs cost (form symbols a e) read n now
+    pub reading_end : length (span symbols a e) ≤ i → ReadsSum top costs cost (form symbols a e) read n now
     reading_end h = record {
       adds = m.adds;
       same = λ d g. omega (arith, m.cap, summed_end (at costs) d symbols a e ok.pricing.rise ok.pricing.fits i n (m.sums d g) h);
     }
 
-    module _ (h : i < e) where
-      pub reading_ready : Readable costs cost (at symbols i) now
-      reading_ready = record { priced = ok.pricing.symbol i (omega (arith, ok.pricing.fits)); few = ok.few; long = m.adds.long ∙ ok.long }
+    module _ (h : i < length (span symbols a e)) (s : ℕ) (is : s ≡ at (span symbols a e) i) where
+      pub reading_ready : Readable costs cost s now
+      reading_ready = record { priced = rw (span_is symbols a e ok.pricing.fits i h s is) (ok.pricing.symbol (a + i) (omega (arith, ok.pricing.fits, span_in symbols a e ok.pricing.fits i h))); few = ok.few; long = m.adds.long ∙ ok.long }
 
-      module _ (x : ℕ) (next : List Bool) (c : ReadsCost costs cost (at symbols i) now x next) where
+      module _ (x : ℕ) (next : List Bool) (c : ReadsCost costs cost s now x next) where
         before : (d : Costs) → Agrees next d (costs_of cost) → Summed (at costs) d symbols a e i n
         before d g = m.sums d (λ r z. g r (c.adds.keeps r z))
 
         pub reading_unknown : 65536 < x → ReadsSum top costs cost (form symbols a e) read top next
         reading_unknown k = record {
           adds = adds_then m.adds c.adds;
-          same = λ d g. omega (arith, ok.upto, summed_unknown (at costs) d symbols a e ok.pricing.rise ok.pricing.fits i n (before d g) h x (c.same d g) k);
+          same = λ d g. omega (arith, ok.upto, summed_unknown (at costs) d symbols a e ok.pricing.rise ok.pricing.fits i n (before d g) h s is x (c.same d g) k);
         }
 
         module _ (k : x ≤ 65536) where
           module _ (to : ℕ) (q : to ≡ min (n + x) 65536) where
             after : (d : Costs) → Agrees next d (costs_of cost) → Summed (at costs) d symbols a e (i + 1) to
-            after d g = summed_on (at costs) d symbols a e ok.pricing.rise ok.pricing.fits i n (before d g) h x (c.same d g) k to q
+            after d g = summed_on (at costs) d symbols a e ok.pricing.rise ok.pricing.fits i n (before d g) h s is x (c.same d g) k to q
 
             pub reading_over : top ≤ to → ReadsSum top costs cost (form symbols a e) read top next
             reading_over l = record {

@@ -3,6 +3,7 @@ use mathlib.Core.Bool.{Bool, true, false, ◌&&◌, cond}
 use mathlib.Core.List.{List, [], ◌∷◌}
 use mathlib.Core.Path.{◌≡◌, refl, sym, ap, ◌∙◌}
 use Prim.Native.Nat.{ℕ, zero, suc, ◌+◌, ◌-◌, ◌≤◌, ◌<◌, min}
+use native.Mathlib.Nat.{add-zero}
 use native.Mathlib.Omega.{arith}
 use lib.Dec.{leb}
 use lib.ListN.{length, get_or}
@@ -10,8 +11,9 @@ use borrow.Author.Tests.{le-leb, lt-leb}
 use Rattle.theory.specs.Grammar.{Sym, tok, rul, Form}
 use Rattle.theory.specs.Visits.{Row, Costs, all_marked, form_cost, known, sum_cost}
 use Rattle.grammar.specs.Flat.{at, symbol, form}
-use Rattle.grammar.proofs.Forms.{form_done, form_more, symbol_token, symbol_rule}
+use Rattle.grammar.proofs.Forms.{symbol_token, symbol_rule}
 use Rattle.engine.specs.Cost.{costs_of, Part, sum_of, SymbolPriced, Pricing}
+use Rattle.engine.proofs.Spans.{span, span_done, span_in, span_is, span_more}
 
 -- inside the list an entry is the number that stands there
 pub default_same : (ws : List ℕ) (r d e : ℕ) → r < length ws → get_or ws r d ≡ get_or ws r e
@@ -48,22 +50,21 @@ module _ (k : ℕ → ℕ) (c : Costs) (s n : ℕ) where
       go true = refl
       go false = refl
 
--- at symbol i: n is the sum so far, cut at 65536, and all parts so far are known
+-- before number i of `symbols[a..e]`: n is the sum so far, cut at 65536, and all parts so far are known
 pub record Summed (k : ℕ → ℕ) (c : Costs) (symbols : List ℕ) (a e i n : ℕ) : Type 0 where
-  pub low : a ≤ i
-  pub high : i ≤ e
+  pub high : a + i ≤ e
   pub cap : n ≤ 65536
-  pub all : all_marked (known c) (form symbols a e) ≡ all_marked (known c) (form symbols i e)
-  pub rest : min (form_cost k c (form symbols a e)) 65536 ≡ min (n + form_cost k c (form symbols i e)) 65536
+  pub all : all_marked (known c) (form symbols a e) ≡ all_marked (known c) (form symbols (a + i) e)
+  pub rest : min (form_cost k c (form symbols a e)) 65536 ≡ min (n + form_cost k c (form symbols (a + i) e)) 65536
 
 module _ (k : ℕ → ℕ) (c : Costs) (symbols : List ℕ) (a e : ℕ) (rise : a ≤ e) (fits : e ≤ length symbols) where
-  pub summed_start : Summed k c symbols a e a 0
-  summed_start = record { low = omega arith; high = rise; cap = omega arith; all = refl; rest = omega arith }
+  pub summed_start : Summed k c symbols a e 0 0
+  summed_start = record { high = omega (arith, rise); cap = omega arith; all = rw (add-zero a); rest = rw (add-zero a) (omega arith) }
 
   module _ (i n : ℕ) (m : Summed k c symbols a e i n) where
-    pub summed_end : e ≤ i → sum_cost k c (form symbols a e) ≡ n
+    pub summed_end : length (span symbols a e) ≤ i → sum_cost k c (form symbols a e) ≡ n
     summed_end h =
-        let d = form_done symbols i e m.high h in
+        let d = span_done symbols a e fits i m.high h in
         rw (m.all ∙ ap (all_marked (known c)) d) (omega (arith, m.cap, m.rest, ap (form_cost k c) d))
 
     -- the whole sum is no less
@@ -74,12 +75,12 @@ module _ (k : ℕ → ℕ) (c : Costs) (symbols : List ℕ) (a e : ℕ) (rise : 
         go true = omega (arith, m.cap, m.rest)
         go false = omega (arith, m.cap)
 
-    module _ (h : i < e) (x : ℕ) (p : Part k c (at symbols i) x) where
-      left : form_cost k c (form symbols i e) ≡ x + form_cost k c (form symbols (i + 1) e)
-      left = rw (form_more symbols i e h fits) (form_cons k c (symbol (at symbols i)) (form symbols (i + 1) e) ∙ ap (λ z. z + form_cost k c (form symbols (i + 1) e)) p.adds)
+    module _ (h : i < length (span symbols a e)) (s : ℕ) (is : s ≡ at (span symbols a e) i) (x : ℕ) (p : Part k c s x) where
+      left : form_cost k c (form symbols (a + i) e) ≡ x + form_cost k c (form symbols (a + (i + 1)) e)
+      left = rw (span_more symbols a e fits i h s is) (form_cons k c (symbol s) (form symbols (a + (i + 1)) e) ∙ ap (λ z. z + form_cost k c (form symbols (a + (i + 1)) e)) p.adds)
 
-      all_left : all_marked (known c) (form symbols a e) ≡ (leb x 65536 && all_marked (known c) (form symbols (i + 1) e))
-      all_left = m.all ∙ rw (form_more symbols i e h fits) (marked_cons (known c) (symbol (at symbols i)) (form symbols (i + 1) e) ∙ ap (λ z. z && all_marked (known c) (form symbols (i + 1) e)) p.told)
+      all_left : all_marked (known c) (form symbols a e) ≡ (leb x 65536 && all_marked (known c) (form symbols (a + (i + 1)) e))
+      all_left = m.all ∙ rw (span_more symbols a e fits i h s is) (marked_cons (known c) (symbol s) (form symbols (a + (i + 1)) e) ∙ ap (λ z. z && all_marked (known c) (form symbols (a + (i + 1)) e)) p.told)
 
       -- an unknown part makes the sum unknown
       pub summed_unknown : 65536 < x → sum_cost k c (form symbols a e) ≡ 65537
@@ -87,8 +88,7 @@ module _ (k : ℕ → ℕ) (c : Costs) (symbols : List ℕ) (a e : ℕ) (rise : 
 
       pub summed_on : x ≤ 65536 → (to : ℕ) → to ≡ min (n + x) 65536 → Summed k c symbols a e (i + 1) to
       summed_on l to q = record {
-        low = omega (arith, m.low);
-        high = omega arith;
+        high = omega (arith, span_in symbols a e fits i h);
         cap = omega arith;
         all = all_left ∙ rw (le-leb x 65536 l);
         rest = omega (arith, m.rest, left);
@@ -115,22 +115,22 @@ abbrev pub CostSummed : (symbols costs : List ℕ) (a e : ℕ) (cost : List ℕ)
 CostSummed symbols costs a e cost i n = Summed (at costs) (costs_of cost) symbols a e i n
 
 module _ (symbols costs : List ℕ) (a e : ℕ) (cost : List ℕ) (ok : Pricing symbols costs a e cost) where
-  pub sum_start : CostSummed symbols costs a e cost a 0
+  pub sum_start : CostSummed symbols costs a e cost 0 0
   sum_start = summed_start (at costs) (costs_of cost) symbols a e ok.rise ok.fits
 
   module _ (i n : ℕ) (m : CostSummed symbols costs a e cost i n) where
-    pub sum_end : e ≤ i → n ≡ sum_of costs cost (form symbols a e)
+    pub sum_end : length (span symbols a e) ≤ i → n ≡ sum_of costs cost (form symbols a e)
     unfolding sum_of
     sum_end h = sym (summed_end (at costs) (costs_of cost) symbols a e ok.rise ok.fits i n m h)
 
-    module _ (h : i < e) where
-      pub sum_priced : SymbolPriced costs cost (at symbols i)
-      sum_priced = ok.symbol i (omega (arith, ok.fits))
+    module _ (h : i < length (span symbols a e)) (s : ℕ) (is : s ≡ at (span symbols a e) i) where
+      pub sum_priced : SymbolPriced costs cost s
+      sum_priced = rw (span_is symbols a e ok.fits i h s is) (ok.symbol (a + i) (omega (arith, ok.fits, span_in symbols a e ok.fits i h)))
 
-      module _ (x : ℕ) (p : Part (at costs) (costs_of cost) (at symbols i) x) where
+      module _ (x : ℕ) (p : Part (at costs) (costs_of cost) s x) where
         pub sum_unknown : 65536 < x → 65537 ≡ sum_of costs cost (form symbols a e)
         unfolding sum_of
-        sum_unknown l = sym (summed_unknown (at costs) (costs_of cost) symbols a e ok.rise ok.fits i n m h x p l)
+        sum_unknown l = sym (summed_unknown (at costs) (costs_of cost) symbols a e ok.rise ok.fits i n m h s is x p l)
 
         pub sum_on : x ≤ 65536 → (to : ℕ) → to ≡ min (n + x) 65536 → CostSummed symbols costs a e cost (i + 1) to
-        sum_on = summed_on (at costs) (costs_of cost) symbols a e ok.rise ok.fits i n m h x p
+        sum_on = summed_on (at costs) (costs_of cost) symbols a e ok.rise ok.fits i n m h s is x p

@@ -20,10 +20,6 @@ pub data Kind : Type 0 where
   follow : Reads → Kind
   productive cost : Kind
 
--- 0 FIRST, 2 FOLLOW, 3 PRODUCTIVE, else COST
-abbrev pub kind_at : ℕ → Reads → Kind
-kind_at n read = cond (eqb n 0) first (cond (eqb n 2) (follow read) (cond (eqb n 3) productive cost))
-
 -- a fact of the table alone, and the row beside it as it was
 pub record Beside (F : List ℕ → List ℕ → Type 0) (a b : Lent) : Type 0 where
   pub table : F a.first b.first

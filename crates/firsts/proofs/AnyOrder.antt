@@ -1,4 +1,6 @@
 -- Demand 3 on the lent words themselves, for calls of `visit` in any order with refused ones between; and demand 2 for what `fill` leaves.
+use Rattle.grammar.specs.declared.refusal.Refusal.{Refusal}
+use Rattle.std.specs.Prelude.{Result}
 use mathlib.Core.Bool.{false}
 use mathlib.Core.List.{List}
 use mathlib.Core.Path.{◌≡◌, sym, ◌∙◌}
@@ -19,7 +21,6 @@ use Rattle.source.specs.Firsts.{Returns}
 use Rattle.source.proofs.Firsts.{firsts_returns, firsts_exact}
 use Rattle.tables.specs.Sizes.{words}
 use Rattle.tables.specs.Trace.{ask, Trace, Rounded, AtRest}
-use Rattle.tables.specs.declared.Filled.{Filled}
 use Rattle.tables.proofs.Asking.{table_right, row_right}
 use Rattle.tables.proofs.AnyOrder.{unless_not, goes, Steady, visits_spare, visits_hold, rest_exact, rounds_still}
 use Rattle.tables.proofs.Stepping.{steady}
@@ -67,7 +68,7 @@ module _ (g : Flat) (w : WellFormed g) where
   orders_agree {a = a} {b = b} s h t k = defined_one g a b (rest_defined s h) (rest_defined t k)
 
   pub fill_agrees : {ps : List ℕ} {a : Lent} → Trace first_visits (ask g) ps (zeros g) a → AtRest first_visits (ask g) (length g.owners) a
-      → (first empty f e : List ℕ) (r : Filled) → fill_due g (lent first empty) ≡ answers tt → Fill g first empty r f e → lent f e ≡ a
+      → (first empty f e : List ℕ) (r : Result (Unit {0}) Refusal) → fill_due g (lent first empty) ≡ answers tt → Fill g first empty r f e → lent f e ≡ a
   fill_agrees {a = a} s h first empty f e r d v = defined_one g (lent f e) a (v.does d).left (rest_defined s h)
 
   -- after R*T rounds in any order no visit changes the tables
@@ -85,5 +86,5 @@ module _ (g : Flat) (b : Built g) where
   source_equal l d r = first_one (denoted g) _ _ d.exact (firsts_exact (denoted g) (proper g b.well) r)
 
   -- the same of a call of fill, whatever was lent to it
-  pub fill_source : (first empty f e : List ℕ) (q : Filled) → fill_due g (lent first empty) ≡ answers tt → Fill g first empty q f e → {t : Marks} → Returns (denoted g) first_cleared t → marks_of g.rules (length g.costs) (lent f e) ≡ t
+  pub fill_source : (first empty f e : List ℕ) (q : Result (Unit {0}) Refusal) → fill_due g (lent first empty) ≡ answers tt → Fill g first empty q f e → {t : Marks} → Returns (denoted g) first_cleared t → marks_of g.rules (length g.costs) (lent f e) ≡ t
   fill_source first empty f e q due v r = source_equal (lent f e) (v.does due).left r

@@ -5,17 +5,15 @@ use mathlib.Core.Path.{◌≡◌, refl, sym, ◌∙◌, ap}
 use Prim.Native.Nat.{ℕ}
 use Rattle.grammar.specs.Flat.{Flat}
 use Rattle.grammar.specs.Outcome.{Outcome, answers, refused, unless}
-use Rattle.grammar.specs.Production.{checked_is, check_of, or_due}
+use Rattle.grammar.specs.Production.{check_of, or_due}
 use Rattle.grammar.specs.Refusals.{unless_due}
 use Rattle.grammar.specs.Well.{WellFormed}
-use Rattle.grammar.specs.declared.Checked.{Checked}
-use Rattle.grammar.specs.declared.Checked.TheVariants.{Well, Refused}
 use Rattle.grammar.proofs.Lowest.{after_well, after_refused}
 use Rattle.grammar.proofs.Outcomes.{not_both, refused_one}
 use Rattle.grammar.proofs.Well.{well}
 
 -- `unless`
-pub unless_due_law : (c : Checked) (due : Bool) (n : ℕ) → c ≡ Well → due ≡ true → refused n ≡ or_due (checked_is c) due n
+pub unless_due_law : (c : Outcome (Unit {0})) (due : Bool) (n : ℕ) → c ≡ answers tt → due ≡ true → refused n ≡ or_due c due n
 unless_due_law c due n e d = rw (e, d)
 
 -- a call's own refusals in order, each with whether it is due
@@ -54,16 +52,16 @@ module _ (g : Flat) (ds : List (Bool × ℕ)) where
   also o r b n is e = e ∙ ap (λ z. or_due z b n) is ∙ go (check_of g) refl
     where
       go : (x : Outcome (Unit {0})) → check_of g ≡ x → or_due (unless_due g (ends ds (answers tt))) b n ≡ unless_due g (ends (ds ++ ((b, n) ∷ [])) (answers tt))
-      go (answers tt) q = ap (λ z. or_due z b n) (after_well g Well _ (sym q) refl) ∙ ends_more b n ds ∙ sym (after_well g Well _ (sym q) refl)
-      go (refused m) q = ap (λ z. or_due z b n) (after_refused g (Refused m) _ m (sym q) refl) ∙ sym (after_refused g (Refused m) _ m (sym q) refl)
+      go (answers tt) q = ap (λ z. or_due z b n) (after_well g (answers tt) _ (sym q) refl) ∙ ends_more b n ds ∙ sym (after_well g (answers tt) _ (sym q) refl)
+      go (refused m) q = ap (λ z. or_due z b n) (after_refused g (refused m) _ m (sym q) refl) ∙ sym (after_refused g (refused m) _ m (sym q) refl)
 
   -- where none is due: the grammar is well-formed, and none of the call's own is
   pub none_due : unless_due g (ends ds (answers (tt {0}))) ≡ answers tt → WellFormed g × NoneOf ds
   none_due d = go (check_of g) refl
     where
       go : (o : Outcome (Unit {0})) → check_of g ≡ o → WellFormed g × NoneOf ds
-      go (answers tt) q = (well g q, ends_none ds (sym (after_well g Well _ (sym q) refl) ∙ d))
-      go (refused m) q = absurd (not_both (sym d ∙ after_refused g (Refused m) _ m (sym q) refl))
+      go (answers tt) q = (well g q, ends_none ds (sym (after_well g (answers tt) _ (sym q) refl) ∙ d))
+      go (refused m) q = absurd (not_both (sym d ∙ after_refused g (refused m) _ m (sym q) refl))
 
   -- the same of a call that answers otherwise than done
   module _ {A : Type 0} (x : Outcome A) where
@@ -71,15 +69,15 @@ module _ (g : Flat) (ds : List (Bool × ℕ)) where
     due_refused n d = go (check_of g) refl
       where
         go : (o : Outcome (Unit {0})) → check_of g ≡ o → unless_due g (ends ds x) ≡ refused n
-        go (answers tt) q = after_well g Well _ (sym q) refl ∙ ends_refused x n ds (sym (after_well g Well _ (sym q) refl) ∙ d)
-        go (refused m) q = after_refused g (Refused m) _ m (sym q) refl ∙ ap refused (refused_one (sym (after_refused g (Refused m) (ends ds (answers (tt {0}))) m (sym q) refl) ∙ d))
+        go (answers tt) q = after_well g (answers tt) _ (sym q) refl ∙ ends_refused x n ds (sym (after_well g (answers tt) _ (sym q) refl) ∙ d)
+        go (refused m) q = after_refused g (refused m) _ m (sym q) refl ∙ ap refused (refused_one (sym (after_refused g (refused m) (ends ds (answers (tt {0}))) m (sym q) refl) ∙ d))
 
     pub due_goes : unless_due g (ends ds (answers (tt {0}))) ≡ answers tt → unless_due g (ends ds x) ≡ x
     due_goes d = let k = none_due d in go (check_of g) refl k.1
       where
         go : (o : Outcome (Unit {0})) → check_of g ≡ o → NoneOf ds → unless_due g (ends ds x) ≡ x
-        go (answers tt) q h = after_well g Well _ (sym q) refl ∙ ends_goes x ds h
-        go (refused m) q h = absurd (not_both (sym d ∙ after_refused g (Refused m) _ m (sym q) refl))
+        go (answers tt) q h = after_well g (answers tt) _ (sym q) refl ∙ ends_goes x ds h
+        go (refused m) q h = absurd (not_both (sym d ∙ after_refused g (refused m) _ m (sym q) refl))
 
 -- two refusals of one number are one
 pub unless_or : {A : Type 0} (a b : Bool) (n : ℕ) (x : Outcome A) → unless a n (unless b n x) ≡ unless (a || b) n x

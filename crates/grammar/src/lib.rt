@@ -2,14 +2,19 @@
 #![tactic(auto)]
 
 pub mod inner;
+mod lists;
+mod refusal;
 
 ghost use Rattle.std.specs.Prelude.{◌≡◌, false, ◌&&◌, ◌||◌, ℕ, ◌+◌, ◌≤◌, ◌<◌, leb, ltb, length, get_or};
 ghost use Rattle.grammar.specs.Flat.{flat, at};
 ghost use Rattle.grammar.specs.Refusals.{falls, starts_wrong, owner_out, owns, rule_unowned, symbols_out, one_rule, start_long, start_held, start_wrong};
 ghost use Rattle.grammar.specs.Well.{Laid};
-ghost use Rattle.grammar.specs.Production.{checked_is, length_is, check_of, production_of, length_of, Front, Produces};
+ghost use Rattle.grammar.specs.Production.{check_of, production_of, length_of, Front, Produces};
+ghost use Rattle.grammar.specs.Lent.{flat_of, outcome_of};
 
-use crate::inner::{sizes_out, start_at, wide};
+use crate::inner::{sizes_out, start_at};
+pub use lists::Grammar;
+pub use refusal::Refusal;
 
 // A rule's, a production's and a token's number, as the source keeps them apart.
 #[derive(Clone, Copy)]
@@ -21,29 +26,13 @@ pub struct PIdx(pub u16);
 #[derive(Clone, Copy)]
 pub struct TIdx(pub u16);
 
-// What `check` answers: well-formed, or the lowest refusal due.
-#[derive(Clone, Copy)]
-pub enum Checked {
-    Well,
-    Refused(u16),
-}
-
-// What `production_len` answers.
-#[derive(Clone, Copy)]
-pub enum Length {
-    Is(usize),
-    Refused(u16),
-}
-
 fn starts_fall(starts: &[u16], prods: usize) -> bool
     requires { prods < length starts.now }
     ensures { result ≡ falls prods starts.now }
 {
     let mut falls = false;
-    let mut p: usize = 0;
-    while p < prods {
-        falls = falls | (starts[p + 1] < starts[p]);
-        p += 1;
+    for p in 0..prods {
+        falls |= starts[p + 1] < starts[p];
     }
     falls
 }
@@ -70,10 +59,8 @@ fn owner_out(rules: u16, owners: &[u16]) -> bool
     ensures { result ≡ owner_out rules owners.now }
 {
     let mut out = false;
-    let mut p: usize = 0;
-    while p < owners.len() {
-        out = out | (rules <= owners[p]);
-        p += 1;
+    for owner in owners {
+        out |= rules <= *owner;
     }
     out
 }
@@ -85,10 +72,8 @@ fn owned_rules(owners: &[u16]) -> [bool; 512]
     ensures { (k : ℕ) → k < 512 → get_or result k false ≡ owns owners.now k }
 {
     let mut owned = [false; 512];
-    let mut p: usize = 0;
-    while p < owners.len() {
-        owned[wide(owners[p])] = true;
-        p += 1;
+    for owner in owners {
+        owned[usize::from(*owner)] = true;
     }
     owned
 }
@@ -98,15 +83,7 @@ fn rule_unowned(rules: u16, owners: &[u16]) -> bool
     requires { (rules ≤ 512) × (owner_out rules owners.now ≡ false) }
     ensures { result ≡ rule_unowned rules owners.now }
 {
-    let owned = owned_rules(owners);
-    let mut r: usize = 0;
-    while r < rules as usize {
-        if !owned[r] {
-            return true;
-        }
-        r += 1;
-    }
-    false
+    owned_rules(owners)[..rules as usize].contains(&false)
 }
 
 // Whether a symbol is a token from `eof` on or a rule from `top` on.
@@ -124,10 +101,8 @@ fn symbols_out(rules: u16, tokens: usize, symbols: &[u16]) -> bool
     let eof = (tokens - 1) as u16;
     let top = 32768 + rules;
     let mut out = false;
-    let mut k: usize = 0;
-    while k < symbols.len() {
-        out = out | symbol_out(eof, top, symbols[k]);
-        k += 1;
+    for symbol in symbols {
+        out |= symbol_out(eof, top, *symbol);
     }
     out
 }
@@ -149,12 +124,10 @@ fn start_long(owners: &[u16], starts: &[u16], symbols: &[u16]) -> bool
     requires { Laid (length owners.now) (length symbols.now) starts.now }
     ensures { result ≡ start_long owners.now starts.now symbols.now }
 {
-    let mut p: usize = 0;
-    while p < owners.len() {
-        if owners[p] == 0 && !one_rule(starts, symbols, p) {
+    for (p, owner) in owners.iter().enumerate() {
+        if *owner == 0 && !one_rule(starts, symbols, p) {
             return true;
         }
-        p += 1;
     }
     false
 }
@@ -162,13 +135,7 @@ fn start_long(owners: &[u16], starts: &[u16], symbols: &[u16]) -> bool
 fn start_held(symbols: &[u16]) -> bool
     ensures { result ≡ start_held symbols.now }
 {
-    let mut held = false;
-    let mut k: usize = 0;
-    while k < symbols.len() {
-        held = held | (symbols[k] == 32768);
-        k += 1;
-    }
-    held
+    symbols.contains(&32768)
 }
 
 // Refusal 6, once 2 is not due.
@@ -183,28 +150,33 @@ fn start_wrong(owners: &[u16], starts: &[u16], symbols: &[u16]) -> bool
 }
 
 // The lowest refusal due of 1 to 6, or that the grammar is well-formed. Each list is passed a few times, none once for each rule.
-pub fn check(rules: u16, owners: &[u16], starts: &[u16], symbols: &[u16], costs: &[u8]) -> Checked
-    ensures { checked_is result ≡ check_of (flat rules owners.now starts.now symbols.now costs.now) }
+pub fn check(g: &Grammar) -> Result<(), Refusal>
+    ensures { outcome_of result ≡ check_of (flat_of g.now) }
 {
-    if sizes_out(rules as usize, costs.len(), owners.len(), symbols.len()) {
-        return Checked::Refused(1);
+    if sizes_out(
+        g.rules as usize,
+        g.costs.len(),
+        g.owners.len(),
+        g.symbols.len(),
+    ) {
+        return Err(Refusal::Sizes);
     }
-    if starts_wrong(starts, owners.len(), symbols.len()) {
-        return Checked::Refused(2);
+    if starts_wrong(g.starts, g.owners.len(), g.symbols.len()) {
+        return Err(Refusal::Starts);
     }
-    if owner_out(rules, owners) {
-        return Checked::Refused(3);
+    if owner_out(g.rules, g.owners) {
+        return Err(Refusal::Owner);
     }
-    if rule_unowned(rules, owners) {
-        return Checked::Refused(4);
+    if rule_unowned(g.rules, g.owners) {
+        return Err(Refusal::Unowned);
     }
-    if symbols_out(rules, costs.len(), symbols) {
-        return Checked::Refused(5);
+    if symbols_out(g.rules, g.costs.len(), g.symbols) {
+        return Err(Refusal::Symbol);
     }
-    if start_wrong(owners, starts, symbols) {
-        return Checked::Refused(6);
+    if start_wrong(g.owners, g.starts, g.symbols) {
+        return Err(Refusal::Start);
     }
-    Checked::Well
+    Ok(())
 }
 
 // The list's empty start.
@@ -215,48 +187,31 @@ fn empty_start<'a>(symbols: &'a [u16]) -> &'a [u16]
 }
 
 // Production `prod` as a part of the caller's own symbol list; its empty start where `production_len` refuses.
-pub fn production<'a>(
-    rules: u16,
-    owners: &[u16],
-    starts: &[u16],
-    symbols: &'a [u16],
-    costs: &[u8],
-    prod: PIdx,
-) -> &'a [u16]
-    ensures { Produces (flat rules owners.now starts.now symbols.now costs.now) prod.0 symbols.entry.ref_ptr result.ref_ptr result.now }
+pub fn production<'a>(g: &Grammar<'a>, prod: PIdx) -> &'a [u16]
+    ensures { Produces (flat_of g.now) prod.0 g.now.symbols.ref_ptr result.ref_ptr result.now }
 {
-    let Checked::Well = check(rules, owners, starts, symbols, costs) else {
-        return empty_start(symbols);
+    let Ok(()) = check(g) else {
+        return empty_start(g.symbols);
     };
-    let p = wide(prod.0);
-    if owners.len() <= p {
-        return empty_start(symbols);
+    let p = usize::from(prod.0);
+    if g.owners.len() <= p {
+        return empty_start(g.symbols);
     }
-    let a = start_at(starts, p);
-    let e = start_at(starts, p + 1);
-    &symbols[a..e]
+    let a = start_at(g.starts, p);
+    let e = start_at(g.starts, p + 1);
+    &g.symbols[a..e]
 }
 
 // The length of production `prod`, or the refusal: 1 to 6, 11.
-pub fn production_len(
-    rules: u16,
-    owners: &[u16],
-    starts: &[u16],
-    symbols: &[u16],
-    costs: &[u8],
-    prod: PIdx,
-) -> Length
-    ensures { length_is result ≡ length_of (production_of (flat rules owners.now starts.now symbols.now costs.now) prod.0) }
+pub fn production_len(g: &Grammar, prod: PIdx) -> Result<usize, Refusal>
+    ensures { outcome_of result ≡ length_of (production_of (flat_of g.now) prod.0) }
 {
-    let c = check(rules, owners, starts, symbols, costs);
-    let Checked::Well = c else {
-        return Length::Refused(inner::number(c));
-    };
-    let p = wide(prod.0);
-    if owners.len() <= p {
-        return Length::Refused(11);
+    check(g)?;
+    let p = usize::from(prod.0);
+    if g.owners.len() <= p {
+        return Err(Refusal::Prod);
     }
-    let a = start_at(starts, p);
-    let e = start_at(starts, p + 1);
-    Length::Is(e - a)
+    let a = start_at(g.starts, p);
+    let e = start_at(g.starts, p + 1);
+    Ok(e - a)
 }

@@ -1,4 +1,8 @@
 -- Each call's promise determines its answer and every lent word: any two results that it allows are equal.
+use mathlib.Core.Bool.{Bool}
+use Rattle.grammar.specs.declared.refusal.Refusal.{Refusal}
+use Rattle.std.specs.Prelude.{Result}
+use Rattle.grammar.specs.Lent.{outcome_of}
 use mathlib.Core.List.{List}
 use mathlib.Core.Path.{◌≡◌, sym, ◌∙◌, ap, subst}
 use Prim.Native.Nat.{ℕ, ◌≤◌}
@@ -7,45 +11,38 @@ use native.Mathlib.Omega.{arith}
 use lib.ListN.{length}
 use Rattle.theory.proofs.Cost.{cost_one}
 use Rattle.grammar.specs.Outcome.{Outcome, answers}
-use Rattle.grammar.specs.Production.{checked_is}
-use Rattle.grammar.specs.declared.Checked.{Checked}
-use Rattle.grammar.proofs.Determined.{checked_one}
-use Rattle.tables.specs.declared.Asked.{Asked}
-use Rattle.tables.specs.declared.Filled.{Filled}
-use Rattle.tables.specs.Answers.{asked_is}
-use Rattle.tables.proofs.Calls.{Both, Alike, call_one, leaves_one, asked_one, filled_one}
+use Rattle.grammar.proofs.Determined.{outcome_one}
+use Rattle.tables.proofs.Calls.{Both, Alike, call_one, leaves_one}
 use Rattle.engine.specs.First.{lent}
 use Rattle.engine.specs.Cost.{costs_of}
 use Rattle.firsts.proofs.Determined.{defined_one}
-use Rattle.costs.specs.declared.Cost.{Cost as CostAnswer}
-use Rattle.costs.proofs.Determined.{cost_defined_one, cost_answer_one}
+use Rattle.costs.proofs.Determined.{cost_defined_one}
 use Rattle.sentences.specs.Measuring.{LengthsDefined}
 use Rattle.sentences.specs.Query.{Lends, lends}
-use Rattle.sentences.specs.declared.Length.{Length as LengthAnswer}
-use Rattle.sentences.proofs.Determined.{lengths_defined_one, length_answer_one}
+use Rattle.sentences.proofs.Determined.{lengths_defined_one}
 use Rattle.house.specs.Table.{house, cheapest_row}
 use Rattle.house.specs.Calls.{first_due, FillFirst, is_first_of, is_empty_of, FillCost, cost_due, Prices, MinCost, row_due, RowWritten, CheapestRow}
 
-pub check_one : {a b : Checked} → checked_is a ≡ answers tt → checked_is b ≡ answers tt → a ≡ b
-check_one e h = checked_one (e ∙ sym h)
+pub check_one : {a b : Result (Unit {0}) Refusal} → outcome_of a ≡ answers tt → outcome_of b ≡ answers tt → a ≡ b
+check_one e h = outcome_one (e ∙ sym h)
 
-pub fill_first_one : (first empty : List ℕ) {r s : Filled} {f e f' e' : List ℕ} → FillFirst first empty r f e → FillFirst first empty s f' e' → Alike r s (lent f e) (lent f' e')
-fill_first_one first empty {r} {s} x y = let o = call_one (leaves_one (defined_one house)) (first_due (lent first empty)) x y in record { answer = filled_one r s o.said; left = o.left }
+pub fill_first_one : (first empty : List ℕ) {r s : Result (Unit {0}) Refusal} {f e f' e' : List ℕ} → FillFirst first empty r f e → FillFirst first empty s f' e' → Alike r s (lent f e) (lent f' e')
+fill_first_one first empty {r} {s} x y = let o = call_one (leaves_one (defined_one house)) (first_due (lent first empty)) x y in record { answer = outcome_one o.said; left = o.left }
 
-pub is_first_one : (first : List ℕ) (rule token : ℕ) {a b : Asked} → asked_is a ≡ is_first_of first rule token → asked_is b ≡ is_first_of first rule token → a ≡ b
-is_first_one first rule token {a} {b} x y = asked_one a b (x ∙ sym y)
+pub is_first_one : (first : List ℕ) (rule token : ℕ) {a b : Result Bool Refusal} → outcome_of a ≡ is_first_of first rule token → outcome_of b ≡ is_first_of first rule token → a ≡ b
+is_first_one first rule token {a} {b} x y = outcome_one (x ∙ sym y)
 
-pub is_empty_one : (empty : List ℕ) (rule : ℕ) {a b : Asked} → asked_is a ≡ is_empty_of empty rule → asked_is b ≡ is_empty_of empty rule → a ≡ b
-is_empty_one empty rule {a} {b} x y = asked_one a b (x ∙ sym y)
+pub is_empty_one : (empty : List ℕ) (rule : ℕ) {a b : Result Bool Refusal} → outcome_of a ≡ is_empty_of empty rule → outcome_of b ≡ is_empty_of empty rule → a ≡ b
+is_empty_one empty rule {a} {b} x y = outcome_one (x ∙ sym y)
 
-pub fill_cost_one : (cost : List ℕ) {r s : Filled} {a b : List ℕ} → FillCost cost r a → FillCost cost s b → Alike r s a b
-fill_cost_one cost {r} {s} x y = let o = call_one (leaves_one (cost_defined_one house)) _ x y in record { answer = filled_one r s o.said; left = o.left }
+pub fill_cost_one : (cost : List ℕ) {r s : Result (Unit {0}) Refusal} {a b : List ℕ} → FillCost cost r a → FillCost cost s b → Alike r s a b
+fill_cost_one cost {r} {s} x y = let o = call_one (leaves_one (cost_defined_one house)) _ x y in record { answer = outcome_one o.said; left = o.left }
 
 prices_one : (r : ℕ) (s t : Outcome ℕ) (a b : List ℕ) → Prices r s a → Prices r t b → Both s t a b
 prices_one r s t a b x y = record { said = x.answer ∙ ap answers (cost_one x.is y.is) ∙ sym y.answer; left = cost_defined_one house a b x.cost y.cost }
 
-pub min_cost_one : (rule : ℕ) (cost : List ℕ) {r s : CostAnswer} {a b : List ℕ} → MinCost rule cost r a → MinCost rule cost s b → Alike r s a b
-min_cost_one rule cost {r} {s} x y = let o = call_one (prices_one rule) (cost_due rule cost) x y in record { answer = cost_answer_one r s o.said; left = o.left }
+pub min_cost_one : (rule : ℕ) (cost : List ℕ) {r s : Result ℕ Refusal} {a b : List ℕ} → MinCost rule cost r a → MinCost rule cost s b → Alike r s a b
+min_cost_one rule cost {r} {s} x y = let o = call_one (prices_one rule) (cost_due rule cost) x y in record { answer = outcome_one o.said; left = o.left }
 
 written_one : (out : List ℕ) (s t : Outcome ℕ) (a b : Lends) → RowWritten out s a → RowWritten out t b → Both s t a b
 written_one out s t a b x y =
@@ -59,5 +56,5 @@ written_one out s t a b x y =
           record { said = (x.is le).number ∙ sym (y.is le).number; left = tables a.out ∙ ap (lends b.cost b.lengths) ((x.is le).tokens ∙ sym (y.is le).tokens) }
     ]
 
-pub cheapest_row_one : (cost lengths out : List ℕ) {r s : LengthAnswer} {c l o c' l' o' : List ℕ} → CheapestRow cost lengths out r c l o → CheapestRow cost lengths out s c' l' o' → Alike r s (lends c l o) (lends c' l' o')
-cheapest_row_one cost lengths out {r} {s} x y = let o = call_one (written_one out) (row_due (lends cost lengths out)) x y in record { answer = length_answer_one r s o.said; left = o.left }
+pub cheapest_row_one : (cost lengths out : List ℕ) {r s : Result ℕ Refusal} {c l o c' l' o' : List ℕ} → CheapestRow cost lengths out r c l o → CheapestRow cost lengths out s c' l' o' → Alike r s (lends c l o) (lends c' l' o')
+cheapest_row_one cost lengths out {r} {s} x y = let o = call_one (written_one out) (row_due (lends cost lengths out)) x y in record { answer = outcome_one o.said; left = o.left }

@@ -1,4 +1,7 @@
 -- What the calls give: their answers, and 7, 9, 10 and 15 as each has them. So none gives 1 to 6 or 12 to 14.
+use Rattle.grammar.specs.declared.refusal.Refusal.{Refusal}
+use Rattle.std.specs.Prelude.{Result}
+use Rattle.grammar.specs.Lent.{outcome_of}
 use mathlib.Core.Bool.{Bool, true, false, ◌||◌}
 use mathlib.Core.List.{List, [], ◌∷◌, Memᴰ}
 use mathlib.Core.Path.{◌≡◌, refl, sym, subst}
@@ -8,18 +11,12 @@ use native.Mathlib.Omega.{arith}
 use lib.Dec.{leb}
 use lib.ListN.{length}
 use Rattle.grammar.specs.Outcome.{Outcome, unless}
-use Rattle.tables.specs.declared.Asked.{Asked}
-use Rattle.tables.specs.declared.Filled.{Filled}
-use Rattle.tables.specs.Answers.{asked_is, filled_is}
 use Rattle.rows.specs.Marks.{mark}
 use Rattle.tables.specs.Call.{Call}
 use Rattle.tables.specs.Sizes.{words, table_wrong, row_wrong, numbers_wrong}
 use Rattle.firsts.specs.Calls.{lent_wrong}
 use Rattle.engine.specs.First.{lent}
-use Rattle.costs.specs.Query.{cost_is}
-use Rattle.costs.specs.declared.Cost.{Cost as CostAnswer}
-use Rattle.sentences.specs.Query.{length_is, Lends}
-use Rattle.sentences.specs.declared.Length.{Length as LengthAnswer}
+use Rattle.sentences.specs.Query.{Lends}
 use Rattle.house.specs.Table.{house, cheapest_row}
 use Rattle.house.specs.Calls.{FillFirst, is_first_of, is_empty_of, FillCost, MinCost, RowWritten, CheapestRow, Gives, answer, refusal}
 
@@ -37,20 +34,20 @@ call_gives : {A M : Type 0} {Done : Outcome A → M → Type 0} {before : M} {s 
 call_gives (answer tt) k x = k (x.does refl)
 call_gives {ns = ns} (refusal {n} m) k x = subst (Gives ns) (sym (x.refuses n refl)) (refusal m)
 
-pub fill_first_gives : (first empty : List ℕ) (r : Filled) {f e : List ℕ} → FillFirst first empty r f e → Gives (7 ∷ []) (filled_is r)
+pub fill_first_gives : (first empty : List ℕ) (r : Result (Unit {0}) Refusal) {f e : List ℕ} → FillFirst first empty r f e → Gives (7 ∷ []) (outcome_of r)
 fill_first_gives first empty r x = call_gives (test (lent_wrong house (lent first empty)) 7 (answer tt)) (λ d. subst (Gives (7 ∷ [])) (sym d.done) (answer tt)) x
 
-pub is_first_gives : (first : List ℕ) (rule token : ℕ) (r : Asked) → asked_is r ≡ is_first_of first rule token → Gives (7 ∷ 9 ∷ 10 ∷ []) (asked_is r)
+pub is_first_gives : (first : List ℕ) (rule token : ℕ) (r : Result Bool Refusal) → outcome_of r ≡ is_first_of first rule token → Gives (7 ∷ 9 ∷ 10 ∷ []) (outcome_of r)
 is_first_gives first rule token r e = subst (Gives (7 ∷ 9 ∷ 10 ∷ [])) (sym e)
     (test (table_wrong house.rules (length house.costs) first) 7 (test (leb house.rules rule) 9 (test (leb (length house.costs) token) 10 (answer (mark (words (length house.costs)) first rule token)))))
 
-pub is_empty_gives : (empty : List ℕ) (rule : ℕ) (r : Asked) → asked_is r ≡ is_empty_of empty rule → Gives (7 ∷ 9 ∷ []) (asked_is r)
+pub is_empty_gives : (empty : List ℕ) (rule : ℕ) (r : Result Bool Refusal) → outcome_of r ≡ is_empty_of empty rule → Gives (7 ∷ 9 ∷ []) (outcome_of r)
 is_empty_gives empty rule r e = subst (Gives (7 ∷ 9 ∷ [])) (sym e) (test (row_wrong house.rules empty) 7 (test (leb house.rules rule) 9 (answer (mark (words house.rules) empty 0 rule))))
 
-pub fill_cost_gives : (cost : List ℕ) (r : Filled) {c : List ℕ} → FillCost cost r c → Gives (7 ∷ []) (filled_is r)
+pub fill_cost_gives : (cost : List ℕ) (r : Result (Unit {0}) Refusal) {c : List ℕ} → FillCost cost r c → Gives (7 ∷ []) (outcome_of r)
 fill_cost_gives cost r x = call_gives (test (numbers_wrong house.rules cost) 7 (answer tt)) (λ d. subst (Gives (7 ∷ [])) (sym d.done) (answer tt)) x
 
-pub min_cost_gives : (rule : ℕ) (cost : List ℕ) (r : CostAnswer) {c : List ℕ} → MinCost rule cost r c → Gives (7 ∷ 9 ∷ []) (cost_is r)
+pub min_cost_gives : (rule : ℕ) (cost : List ℕ) (r : Result ℕ Refusal) {c : List ℕ} → MinCost rule cost r c → Gives (7 ∷ 9 ∷ []) (outcome_of r)
 min_cost_gives rule cost r x = call_gives (test (numbers_wrong house.rules cost) 7 (test (leb house.rules rule) 9 (answer tt))) (λ d. subst (Gives (7 ∷ 9 ∷ [])) (sym d.answer) (answer d.least)) x
 
 -- the row's answer, or 15
@@ -60,5 +57,5 @@ row_gives out said after d = elim (dec_lt (length out) (length cheapest_row)) [
   | no q ↦ let le : length cheapest_row ≤ length out = omega arith in subst (Gives (7 ∷ 15 ∷ [])) (sym (d.is le).number) (answer (length cheapest_row))
 ]
 
-pub cheapest_row_gives : (cost lengths out : List ℕ) (r : LengthAnswer) {c l o : List ℕ} → CheapestRow cost lengths out r c l o → Gives (7 ∷ 15 ∷ []) (length_is r)
+pub cheapest_row_gives : (cost lengths out : List ℕ) (r : Result ℕ Refusal) {c l o : List ℕ} → CheapestRow cost lengths out r c l o → Gives (7 ∷ 15 ∷ []) (outcome_of r)
 cheapest_row_gives cost lengths out r x = call_gives {Done = RowWritten out} (test (numbers_wrong house.rules cost || numbers_wrong house.rules lengths) 7 (answer tt)) (row_gives out _ _) x

@@ -1,16 +1,13 @@
 // The house grammar, built in: its check, FIRST, costs and one cheapest row, without a grammar to give.
 #![tactic(auto)]
 
+ghost use Rattle.grammar.specs.Lent.{flat_of, outcome_of};
 ghost use Rattle.std.specs.Prelude.{◌≡◌};
 ghost use Rattle.grammar.specs.Outcome.{answers};
-ghost use Rattle.grammar.specs.Production.{checked_is};
-ghost use Rattle.tables.specs.Answers.{asked_is};
+ghost use Rattle.house.specs.Table.{house};
 ghost use Rattle.house.specs.Calls.{FillFirst, is_first_of, is_empty_of, FillCost, MinCost, CheapestRow};
 
-use costs::Cost;
-use grammar::{Checked, RIdx, TIdx};
-use sentences::Length;
-use tables::{Asked, Filled};
+use grammar::{Grammar, RIdx, Refusal, TIdx};
 
 // The table; house/specs/Table has it as its productions.
 const RULES: u16 = 58;
@@ -44,64 +41,65 @@ const SYMBOLS: [u16; 143] = [
 
 const COSTS: [u8; 8] = [1, 1, 1, 1, 1, 1, 1, 0];
 
-// Whether the house grammar is well-formed: it is.
-pub fn check() -> Checked
-    ensures { checked_is result ≡ answers tt }
+// The house grammar, as the calls take it.
+fn house() -> Grammar<'static>
+    ensures { flat_of result ≡ house }
 {
-    grammar::check(RULES, &OWNERS, &STARTS, &SYMBOLS, &COSTS)
+    Grammar {
+        rules: RULES,
+        owners: &OWNERS,
+        starts: &STARTS,
+        symbols: &SYMBOLS,
+        costs: &COSTS,
+    }
+}
+
+// Whether the house grammar is well-formed: it is.
+pub fn check() -> Result<(), Refusal>
+    ensures { outcome_of result ≡ answers tt }
+{
+    grammar::check(&house())
 }
 
 // Leaves FIRST and EMPTY of the house grammar in the lent tables. Refusal 7.
-pub fn fill_first(first: &mut [u32], empty: &mut [u32]) -> Filled
+pub fn fill_first(first: &mut [u32], empty: &mut [u32]) -> Result<(), Refusal>
     ensures { FillFirst first.old empty.old result first.new empty.new }
 {
-    firsts::fill(RULES, &OWNERS, &STARTS, &SYMBOLS, &COSTS, first, empty)
+    firsts::fill(&house(), first, empty)
 }
 
 // Whether a token is marked for a rule in the lent table. Refusals 7, 9, 10.
-pub fn is_first(first: &[u32], rule: RIdx, token: TIdx) -> Asked
-    ensures { asked_is result ≡ is_first_of first.now rule.0 token.0 }
+pub fn is_first(first: &[u32], rule: RIdx, token: TIdx) -> Result<bool, Refusal>
+    ensures { outcome_of result ≡ is_first_of first.now rule.0 token.0 }
 {
-    tables::is_set(
-        RULES, &OWNERS, &STARTS, &SYMBOLS, &COSTS, first, rule, token,
-    )
+    tables::is_set(&house(), first, rule, token)
 }
 
 // Whether a rule is marked in the lent row. Refusals 7, 9.
-pub fn is_empty(empty: &[u32], rule: RIdx) -> Asked
-    ensures { asked_is result ≡ is_empty_of empty.now rule.0 }
+pub fn is_empty(empty: &[u32], rule: RIdx) -> Result<bool, Refusal>
+    ensures { outcome_of result ≡ is_empty_of empty.now rule.0 }
 {
-    tables::is_rule_set(RULES, &OWNERS, &STARTS, &SYMBOLS, &COSTS, empty, rule)
+    tables::is_rule_set(&house(), empty, rule)
 }
 
 // Leaves COST of the house grammar in the lent table. Refusal 7.
-pub fn fill_cost(cost: &mut [u32]) -> Filled
+pub fn fill_cost(cost: &mut [u32]) -> Result<(), Refusal>
     ensures { FillCost cost.old result cost.new }
 {
-    costs::fill(RULES, &OWNERS, &STARTS, &SYMBOLS, &COSTS, cost)
+    costs::fill(&house(), cost)
 }
 
 // The least cost of a sentence of a rule; leaves COST in the lent table. Refusals 7, 9.
-pub fn min_cost(rule: RIdx, cost: &mut [u32]) -> Cost
+pub fn min_cost(rule: RIdx, cost: &mut [u32]) -> Result<u32, Refusal>
     ensures { MinCost rule.0 cost.old result cost.new }
 {
-    costs::min_sentence_cost(RULES, &OWNERS, &STARTS, &SYMBOLS, &COSTS, rule, cost)
+    costs::min_sentence_cost(&house(), rule, cost)
 }
 
 // Writes the cheapest row to the front of `out`; its length. Leaves COST and the lengths in the lent tables. Refusals 7,
 // 15.
-pub fn cheapest_row(cost: &mut [u32], lengths: &mut [u32], out: &mut [u16]) -> Length
+pub fn cheapest_row(cost: &mut [u32], lengths: &mut [u32], out: &mut [u16]) -> Result<u32, Refusal>
     ensures { CheapestRow cost.old lengths.old out.old result cost.new lengths.new out.new }
 {
-    sentences::min_sentence(
-        RULES,
-        &OWNERS,
-        &STARTS,
-        &SYMBOLS,
-        &COSTS,
-        RIdx(0),
-        cost,
-        lengths,
-        out,
-    )
+    sentences::min_sentence(&house(), RIdx(0), cost, lengths, out)
 }

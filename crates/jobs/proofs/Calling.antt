@@ -1,50 +1,53 @@
 -- What the returns of a slice owe, from what `check` and the tests on the way answered.
-use mathlib.Core.Bool.{Bool, true, false, cond, ◌||◌}
+use mathlib.Core.Bool.{Bool, true, false, ◌||◌}
 use mathlib.Core.List.{List}
 use mathlib.Core.Path.{◌≡◌, refl, sym, ◌∙◌, ap, subst}
 use Prim.Native.Nat.{ℕ, ◌*◌, ◌<◌}
 use native.Mathlib.Omega.{arith}
-use lib.Dec.{eqb, ltb}
+use lib.Dec.{leb}
 use lib.ListN.{length}
-use borrow.Author.Tests.{ne_eqb, leb-false}
+use borrow.Author.Tests.{leb-false}
 use Rattle.theory.proofs.Bools.{or_none}
 use Rattle.theory.specs.Slices.{Slice}
 use Rattle.grammar.specs.Flat.{Flat}
-use Rattle.grammar.specs.Outcome.{answers, refused}
-use Rattle.grammar.specs.Production.{checked_is, check_of}
-use Rattle.grammar.specs.declared.Checked.{Checked}
-use Rattle.grammar.specs.declared.Checked.TheVariants.{Well}
+use Rattle.grammar.specs.Outcome.{Outcome, answers, refused, unless}
+use Rattle.grammar.specs.Production.{check_of}
 use Rattle.grammar.proofs.Lowest.{after_well}
+use Rattle.grammar.proofs.Outcomes.{not_both, refused_one, answers_one}
 use Rattle.grammar.proofs.Well.{well}
 use Rattle.rows.specs.Marks.{Small}
 use Rattle.tables.specs.Call.{Call}
 use Rattle.tables.specs.Entry.{ByLength}
 use Rattle.tables.specs.Sizes.{words, table_wrong, row_wrong, numbers_wrong}
 use Rattle.tables.proofs.Asking.{table_long, row_long, numbers_long}
-use Rattle.tables.proofs.Calls.{call_refused, call_does}
+use Rattle.tables.proofs.AnyOrder.{unless_not}
+use Rattle.tables.proofs.Calls.{call_refused, call_does, unless_is}
 use Rattle.engine.specs.First.{lent as firsts, Held as FirstHeld}
 use Rattle.engine.specs.Follow.{reads, lent}
 use Rattle.follows.specs.Calls.{lent_wrong, LentWrong}
 use Rattle.jobs.specs.declared.Job.{Job}
-use Rattle.jobs.specs.Kinds.{Tables, tables, read_of, first, follow, productive, cost, kind_of, kind_wrong, FollowHeld, Held, Visit}
-use Rattle.jobs.specs.Calls.{progress, progress_of, job_at, job_wrong, slice_due, lends, Works, Workable}
+use Rattle.jobs.specs.declared.inner.Stand.{Stand}
+use Rattle.jobs.specs.declared.kind.Kind.{Kind as Named}
+use Rattle.jobs.specs.declared.kind.Kind.TheVariants.{First, Follow, Productive, Cost}
+use Rattle.jobs.specs.Kinds.{Tables, tables, read_of, kind_of, kind_number, no_kind, kind_wrong, FollowHeld, Held, Visit}
+use Rattle.jobs.specs.Calls.{stands, progress_of, job_at, slice_due, Lends, lends, Works, Workable}
 
 -- `wrong`
-module _ (n R T : ℕ) (a e f r c h : List ℕ) where
+module _ (n : Named) (R T : ℕ) (a e f r c h : List ℕ) where
   abbrev t : Tables
   t = tables a e f r c h
 
-  pub wrong_first : n ≡ 0 → (x y : Bool) → ByLength (table_wrong R T) (length a) x → ByLength (row_wrong R) (length e) y → (x || y) ≡ kind_wrong (kind_of n t) R T t
-  wrong_first q x y ex ey = rw (ex a refl, ey e refl) (ap (λ z. kind_wrong (kind_of z t) R T t) (sym q))
+  pub wrong_first : n ≡ First → (x y : Bool) → ByLength (table_wrong R T) (length a) x → ByLength (row_wrong R) (length e) y → (x || y) ≡ kind_wrong (kind_of (kind_number n) t) R T t
+  wrong_first q x y ex ey = rw (ex a refl, ey e refl) (ap (λ z. kind_wrong (kind_of (kind_number z) t) R T t) (sym q))
 
-  pub wrong_follow : n ≡ 2 → (x : Bool) → LentWrong R T (length f) (length a) (length e) (length h) x → x ≡ kind_wrong (kind_of n t) R T t
-  wrong_follow q x ex = ex (lent f (reads (firsts a e) h)) refl refl refl refl ∙ ap (λ z. kind_wrong (kind_of z t) R T t) (sym q)
+  pub wrong_follow : n ≡ Follow → (x : Bool) → LentWrong R T (length f) (length a) (length e) (length h) x → x ≡ kind_wrong (kind_of (kind_number n) t) R T t
+  wrong_follow q x ex = ex (lent f (reads (firsts a e) h)) refl refl refl refl ∙ ap (λ z. kind_wrong (kind_of (kind_number z) t) R T t) (sym q)
 
-  pub wrong_row : n ≡ 3 → (x : Bool) → ByLength (row_wrong R) (length r) x → x ≡ kind_wrong (kind_of n t) R T t
-  wrong_row q x ex = ex r refl ∙ ap (λ z. kind_wrong (kind_of z t) R T t) (sym q)
+  pub wrong_row : n ≡ Productive → (x : Bool) → ByLength (row_wrong R) (length r) x → x ≡ kind_wrong (kind_of (kind_number n) t) R T t
+  wrong_row q x ex = ex r refl ∙ ap (λ z. kind_wrong (kind_of (kind_number z) t) R T t) (sym q)
 
-  pub wrong_cost : (n ≡ 0 → ⊥) → (n ≡ 2 → ⊥) → (n ≡ 3 → ⊥) → (x : Bool) → ByLength (numbers_wrong R) (length c) x → x ≡ kind_wrong (kind_of n t) R T t
-  wrong_cost q0 q2 q3 x ex = ex c refl ∙ rw (ne_eqb n 0 q0, ne_eqb n 2 q2, ne_eqb n 3 q3)
+  pub wrong_cost : n ≡ Cost → (x : Bool) → ByLength (numbers_wrong R) (length c) x → x ≡ kind_wrong (kind_of (kind_number n) t) R T t
+  wrong_cost q x ex = ex c refl ∙ ap (λ z. kind_wrong (kind_of (kind_number z) t) R T t) (sym q)
 
 -- every number of every table is one of 32 bits
 pub record Words (t : Tables) : Type 0 where
@@ -75,38 +78,56 @@ module _ (g : Flat) (t : Tables) (small : Words t) where
         follows = record { len = table_long g.rules (length g.costs) t.follow s.0; small = small.follow };
       }
 
-  held_right : (n : ℕ) → kind_wrong (kind_of n t) g.rules (length g.costs) t ≡ false → Held (kind_of n t) g t
-  held_right n e = go (eqb n 0) (eqb n 2) (eqb n 3) e
-    where
-      go : (q0 q2 q3 : Bool) → kind_wrong (cond q0 first (cond q2 (follow (read_of t)) (cond q3 productive cost))) g.rules (length g.costs) t ≡ false
-          → Held (cond q0 first (cond q2 (follow (read_of t)) (cond q3 productive cost))) g t
-      go true q2 q3 k = firsts_held k
-      go false true q3 k = follow_held k
-      go false false true k = record { len = row_long g.rules t.productive k ∙ one_row g.rules; small = small.productive }
-      go false false false k = numbers_long g.rules t.cost k
+  held_right : (k : Named) → kind_wrong (kind_of (kind_number k) t) g.rules (length g.costs) t ≡ false → Held (kind_of (kind_number k) t) g t
+  held_right First e = firsts_held e
+  held_right Follow e = follow_held e
+  held_right Productive e = record { len = row_long g.rules t.productive e ∙ one_row g.rules; small = small.productive }
+  held_right Cost e = numbers_long g.rules t.cost e
 
--- `sliced`
-module _ (g : Flat) (n : ℕ) (j : Job) (t : Tables) (c : Checked) (is : checked_is c ≡ check_of g) (e : c ≡ Well) (w : ℕ) (ew : w ≡ j.next.0) where
-  abbrev bad : Bool
-  bad = job_wrong (length g.owners) j.kind w
+-- what a number was read as: where a refusal, the number is no kind's, and the refusal is 17
+read_none : (b : Bool) (n m : ℕ) → refused m ≡ unless b 17 (answers n) → (b ≡ true) × (m ≡ 17)
+read_none true n m e = (refl, refused_one e)
+read_none false n m e = absurd (not_both (sym e))
 
-  pub slice_17 : bad ≡ true → Call (slice_due g j t) (Works g n j t) (lends j t) (refused 17) (lends j t)
-  slice_17 k = call_refused 17 (after_well g c _ is e ∙ rw (← ew, k))
+-- `slice`
+module _ (g : Flat) (n : ℕ) (j : Job) (t : Tables) (is : answers tt ≡ check_of g) where
+  abbrev Sliced : Outcome ℕ → Lends → Type 0
+  Sliced = Call (slice_due g j t) (Works g n j t) (lends j t)
 
-  module _ (k : bad ≡ false) where
-    module _ (x : Bool) (ex : x ≡ kind_wrong (kind_of j.kind t) g.rules (length g.costs) t) where
-      pub slice_7 : x ≡ true → Call (slice_due g j t) (Works g n j t) (lends j t) (refused 7) (lends j t)
-      slice_7 q = call_refused 7 (after_well g c _ is e ∙ rw (← ew, k, ← ex, q))
+  pub slice_kind : (m : ℕ) → refused m ≡ unless (no_kind j.kind) 17 (answers j.kind) → Sliced (refused m) (lends j t)
+  slice_kind m h = let b = read_none (no_kind j.kind) j.kind m h in rw b.1 (call_refused 17 (after_well g (answers tt) _ is refl ∙ rw b.0))
 
-      module _ (q : x ≡ false) where
-        pub slice_workable : Words t → Workable (kind_of j.kind t) g j.next.0 t
-        slice_workable s = record {
-          well = well g (sym is ∙ ap checked_is e);
-          below = subst (λ z. z < length g.owners) ew (leb-false (length g.owners) w (or_none (ltb 4 j.kind) _ (or_none (eqb j.kind 1) _ k).1).1);
-          held = held_right g t s j.kind (sym ex ∙ q);
-        }
+  -- the number is that of kind k
+  module _ (k : Named) (ek : answers (kind_number k) ≡ unless (no_kind j.kind) 17 (answers j.kind)) (w : ℕ) (ew : w ≡ j.next.0) where
+    some : (no_kind j.kind ≡ false) × (answers j.kind ≡ answers (kind_number k))
+    some = unless_not (no_kind j.kind) 17 (answers j.kind) (kind_number k) (sym ek)
 
-        pub slice_does : (made next : ℕ) (changed done : Bool) (to : Tables) → Slice (Visit (kind_of j.kind t) g) (length g.owners) n (progress_of j) t made (progress next changed done) to
-            → Call (slice_due g j t) (Works g n j t) (lends j t) (answers made) (lends (job_at j.kind (progress next changed done)) to)
-        slice_does made next changed done to s = call_does (answers made) _ (after_well g c _ is e ∙ rw (← ew, k, ← ex, q))
-            (record { made = made; stands = progress next changed done; answer = refl; slice = s; job = refl })
+    same : kind_number k ≡ j.kind
+    same = answers_one (sym some.1)
+
+    pub slice_17 : (m : ℕ) → refused m ≡ unless (leb (length g.owners) w) 17 (answers (tt {0})) → Sliced (refused m) (lends j t)
+    slice_17 m h = let b = unless_is (leb (length g.owners) w) 17 m h in rw b.1 (call_refused 17 (after_well g (answers tt) _ is refl ∙ rw (some.0, ← ew, b.0)))
+
+    module _ (u : answers (tt {0}) ≡ unless (leb (length g.owners) w) 17 (answers tt)) where
+      near : leb (length g.owners) w ≡ false
+      near = (unless_not (leb (length g.owners) w) 17 (answers (tt {0})) tt (sym u)).0
+
+      module _ (x : Bool) (ex : x ≡ kind_wrong (kind_of (kind_number k) t) g.rules (length g.costs) t) where
+        pub slice_7 : (m : ℕ) → refused m ≡ unless x 7 (answers (tt {0})) → Sliced (refused m) (lends j t)
+        slice_7 m h = let b = unless_is x 7 m h in rw b.1 (call_refused 7 (after_well g (answers tt) _ is refl ∙ rw (some.0, ← ew, near, ← same, ← ex, b.0)))
+
+        module _ (v : answers (tt {0}) ≡ unless x 7 (answers tt)) where
+          q : x ≡ false
+          q = (unless_not x 7 (answers (tt {0})) tt (sym v)).0
+
+          pub slice_workable : Words t → Workable (kind_of (kind_number k) t) g j.next.0 t
+          slice_workable s = record {
+            well = well g (sym is);
+            below = subst (λ z. z < length g.owners) ew (leb-false (length g.owners) w near);
+            held = held_right g t s k (sym ex ∙ q);
+          }
+
+          pub slice_does : (made : ℕ) (at : Stand) (to : Tables) → Slice (Visit (kind_of (kind_number k) t) g) (length g.owners) n (progress_of j) t made (stands at) to
+              → Sliced (answers made) (lends (job_at j.kind (stands at)) to)
+          slice_does made at to s = call_does (answers made) _ (after_well g (answers tt) _ is refl ∙ rw (some.0, ← ew, near, ← same, ← ex, q))
+              (record { made = made; stands = stands at; answer = refl; slice = subst (λ z. Slice (Visit (kind_of z t) g) (length g.owners) n (progress_of j) t made (stands at) to) same s; job = refl })

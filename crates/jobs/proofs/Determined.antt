@@ -1,4 +1,6 @@
 -- Any two results that a slice's promise allows are equal: the answer, the job and every lent table.
+use Rattle.grammar.specs.declared.refusal.Refusal.{Refusal}
+use Rattle.std.specs.Prelude.{Result}
 use mathlib.Core.Bool.{Bool, true, false}
 use mathlib.Core.Path.{◌≡◌, refl, sym, ◌∙◌, ap, ap₂}
 use Prim.Native.Nat.{ℕ}
@@ -6,19 +8,18 @@ use lib.ListN.{length}
 use Rattle.theory.proofs.Bools.{bool_eq}
 use Rattle.theory.proofs.Slices.{slice_one}
 use Rattle.grammar.specs.Flat.{Flat}
-use Rattle.grammar.specs.Outcome.{Outcome, answers, refused}
+use Rattle.grammar.proofs.Determined.{outcome_one}
+use Rattle.grammar.specs.Outcome.{Outcome, answers}
 use Rattle.rows.proofs.Row.{row_one}
 use Rattle.rows.proofs.Tables.{became_one}
 use Rattle.tables.specs.Sizes.{words}
-use Rattle.tables.proofs.Calls.{Both, call_one, told_apart}
+use Rattle.tables.proofs.Calls.{Both, call_one}
 use Rattle.engine.specs.First.{Lent as Firsts, lent as firsts}
 use Rattle.engine.proofs.FirstMoving.{first_became_one}
 use Rattle.engine.proofs.CostMoving.{costs_words}
 use Rattle.jobs.specs.declared.Job.{Job}
-use Rattle.jobs.specs.declared.Sliced.{Sliced}
-use Rattle.jobs.specs.declared.Sliced.TheVariants.{Made as Made', Refused}
 use Rattle.jobs.specs.Kinds.{Tables, tables, Kind, first, follow, productive, cost, kind_of, Became, Visit}
-use Rattle.jobs.specs.Calls.{sliced_is, job_at, slice_due, Lends, lends, Works, SliceOf}
+use Rattle.jobs.specs.Calls.{job_at, slice_due, Lends, lends, Works, SliceOf}
 
 made_one : (k : Kind) (g : Flat) (p : ℕ) (a b d : Tables) → Became k g p a b → Became k g p a d → b ≡ d
 made_one first g p a b d x y =
@@ -45,15 +46,7 @@ works_one g n j t s s' a a' x y =
       left = ap₂ lends (x.job ∙ ap (job_at j.kind) o.1 ∙ sym y.job) o.2;
     }
 
-abbrev back : Outcome ℕ → Sliced
-back (answers n) = Made' n
-back (refused n) = Refused n
-
-back_is : (r : Sliced) → back (sliced_is r) ≡ r
-back_is (Made' n) = refl
-back_is (Refused n) = refl
-
-pub slice_call_one : (g : Flat) (n : ℕ) (j : Job) (t : Tables) (r r' : Sliced) (i i' : Job) (d d' : Tables) → SliceOf g n j t r i d → SliceOf g n j t r' i' d' → (r ≡ r') × (i ≡ i') × (d ≡ d')
+pub slice_call_one : (g : Flat) (n : ℕ) (j : Job) (t : Tables) (r r' : Result ℕ Refusal) (i i' : Job) (d d' : Tables) → SliceOf g n j t r i d → SliceOf g n j t r' i' d' → (r ≡ r') × (i ≡ i') × (d ≡ d')
 slice_call_one g n j t r r' i i' d d' x y =
     let o = call_one (works_one g n j t) (slice_due g j t) x y in
-    (told_apart sliced_is back back_is r r' o.said, ap (λ (z : Lends). z.job) o.left, ap (λ (z : Lends). z.lent) o.left)
+    (outcome_one o.said, ap (λ (z : Lends). z.job) o.left, ap (λ (z : Lends). z.lent) o.left)

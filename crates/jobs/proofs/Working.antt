@@ -1,19 +1,17 @@
 -- Visits one after another: where the job stands after each, and what the loop over them owes.
-use mathlib.Core.Bool.{Bool, true, false, not, cond, ◌&&◌, ◌||◌}
+use mathlib.Core.Bool.{Bool, true, false, not, cond, ◌||◌}
 use mathlib.Core.Path.{◌≡◌, refl, sym, ◌∙◌, ap, subst}
 use Prim.Native.Nat.{ℕ, suc, ◌+◌, ◌≤◌, ◌<◌}
 use native.Mathlib.Numerals.{add-one}
-use native.Mathlib.Nat.{le_antisymm}
-use native.Mathlib.Omega.{arith}
-use lib.Dec.{eqb, ltb}
+use lib.Dec.{eqb}
 use lib.ListN.{length}
-use borrow.Author.Tests.{eq-eqb, ne_eqb, ltb-true, ltb-false, not-true}
-use Rattle.theory.proofs.Bools.{and_split}
+use borrow.Author.Tests.{eq-eqb, ne_eqb}
 use Rattle.theory.specs.Slices.{Progress, after, Slice, full}
 use Rattle.theory.proofs.Slices.{slice_append, slice_stop, after_below}
 use Rattle.grammar.specs.Flat.{Flat}
 use Rattle.jobs.specs.Kinds.{Tables, read_of, Kind, first, follow, productive, cost, kind_of, Held, Became, Visit, Ready}
-use Rattle.jobs.specs.Calls.{progress, Workable}
+use Rattle.jobs.specs.declared.inner.Stand.{Stand}
+use Rattle.jobs.specs.Calls.{progress, stands, Workable}
 
 -- `moved`
 module _ (P next w : ℕ) (changed got : Bool) (ew : w ≡ next) where
@@ -22,10 +20,6 @@ module _ (P next w : ℕ) (changed got : Bool) (ew : w ≡ next) where
 
   pub moved_on : (w + 1 ≡ P → ⊥) → progress (next + 1) (changed || got) false ≡ after P got (progress next changed false)
   moved_on e = rw (ne_eqb (next + 1) P (λ k. e (ap (λ z. z + 1) ew ∙ k)))
-
--- the loop goes on while visits are left
-pub more_left : (made n : ℕ) (over : Bool) → (ltb made n && not over) ≡ true → made < n
-more_left made n over e = ltb-true made n (and_split (ltb made n) _ e).0
 
 -- a visit keeps the kind's tables of their lengths
 pub held_on : (k : Kind) (g : Flat) (p : ℕ) (a : Tables) (x : Bool) (b : Tables) → Held k g a → Visit k g p a x b → Held k g b
@@ -96,41 +90,40 @@ kind_on n g p a x b v = go (eqb n 0) (eqb n 2) (eqb n 3) v.became
     go false false q3 s = refl
 
 -- the loop so far: `made` visits from where the job stood
-pub record Working (kind : ℕ) (g : Flat) (next : ℕ) (changed done : Bool) (t : Tables) (at : ℕ) (new over : Bool) (now : Tables) (made : ℕ) : Type 0 where
-  pub begun : Workable (kind_of kind t) g at now
+pub record Working (kind : ℕ) (g : Flat) (from : Stand) (t : Tables) (at : Stand) (now : Tables) (made : ℕ) : Type 0 where
+  pub begun : Workable (kind_of kind t) g at.next now
   pub same : kind_of kind now ≡ kind_of kind t
   pub long : Long t now
-  pub sliced : Slice (Visit (kind_of kind t) g) (length g.owners) made (progress next changed done) t made (progress at new over) now
+  pub sliced : Slice (Visit (kind_of kind t) g) (length g.owners) made (stands from) t made (stands at) now
 
-module _ (kind : ℕ) (g : Flat) (next : ℕ) (changed done : Bool) (t : Tables) where
-  pub working_start : Workable (kind_of kind t) g next t → Working kind g next changed done t next changed done t 0
+module _ (kind : ℕ) (g : Flat) (from : Stand) (t : Tables) where
+  pub working_start : Workable (kind_of kind t) g from.next t → Working kind g from t from t 0
   working_start w = record { begun = w; same = refl; long = long_same t; sliced = full }
 
-  module _ (at : ℕ) (new over : Bool) (now : Tables) (made : ℕ) (w : Working kind g next changed done t at new over now made) where
-    pub working_ready : (p : ℕ) → p ≡ at → Ready (kind_of kind now) g p now
+  module _ (at : Stand) (now : Tables) (made : ℕ) (w : Working kind g from t at now made) where
+    pub working_ready : (p : ℕ) → p ≡ at.next → Ready (kind_of kind now) g p now
     working_ready p e = record { well = w.begun.well; is_prod = rw e w.begun.below; held = subst (λ z. Held z g now) (sym w.same) w.begun.held }
 
-    pub working_on : (n p : ℕ) → p ≡ at → (ltb made n && not over) ≡ true → (got : Bool) (to : Tables) → Visit (kind_of kind now) g p now got to
-        → (at' : ℕ) (new' over' : Bool) → progress at' new' over' ≡ after (length g.owners) got (progress at new false) → Working kind g next changed done t at' new' over' to (made + 1)
-    working_on n p ep go got to v at' new' over' e =
-        let open' : over ≡ false = not-true over (and_split (ltb made n) _ go).1 in
-        let v' : Visit (kind_of kind t) g at now got to = subst (λ z. Visit (kind_of kind t) g z now got to) ep (subst (λ z. Visit z g p now got to) w.same v) in
+    pub working_on : at.done ≡ false → (p : ℕ) → p ≡ at.next → (got : Bool) (to : Tables) → Visit (kind_of kind now) g p now got to
+        → (at' : Stand) → stands at' ≡ after (length g.owners) got (progress at.next at.changed false) → Working kind g from t at' to (made + 1)
+    working_on go p ep got to v at' e =
+        let v' : Visit (kind_of kind t) g at.next now got to = subst (λ z. Visit (kind_of kind t) g z now got to) ep (subst (λ z. Visit z g p now got to) w.same v) in
         record {
           begun = record {
             well = w.begun.well;
-            below = subst (λ (z : Progress). z.next < length g.owners) (sym e) (after_below (length g.owners) got (progress at new false) w.begun.below);
-            held = held_on (kind_of kind t) g at now got to w.begun.held v';
+            below = subst (λ (z : Progress). z.next < length g.owners) (sym e) (after_below (length g.owners) got (progress at.next at.changed false) w.begun.below);
+            held = held_on (kind_of kind t) g at.next now got to w.begun.held v';
           };
           same = kind_on kind g p now got to v ∙ w.same;
-          long = long_then t now to w.long (long_on (kind_of kind t) g at now got to w.begun.held v');
-          sliced = subst (λ z. Slice (Visit (kind_of kind t) g) (length g.owners) z (progress next changed done) t z (progress at' new' over') to) (sym (add-one made))
-              (subst (λ z. Slice (Visit (kind_of kind t) g) (length g.owners) (suc made) (progress next changed done) t (suc made) z to) (sym e) (slice_append w.sliced got to open' v'));
+          long = long_then t now to w.long (long_on (kind_of kind t) g at.next now got to w.begun.held v');
+          sliced = subst (λ z. Slice (Visit (kind_of kind t) g) (length g.owners) z (stands from) t z (stands at') to) (sym (add-one made))
+              (subst (λ z. Slice (Visit (kind_of kind t) g) (length g.owners) (suc made) (stands from) t (suc made) z to) (sym e) (slice_append w.sliced got to go v'));
         }
 
-    pub working_end : (n : ℕ) → made ≤ n → (ltb made n && not over) ≡ false → Slice (Visit (kind_of kind t) g) (length g.owners) n (progress next changed done) t made (progress at new over) now
-    working_end n l e = go (ltb made n) over refl refl e
-      where
-        go : (x y : Bool) → ltb made n ≡ x → over ≡ y → (x && not y) ≡ false → Slice (Visit (kind_of kind t) g) (length g.owners) n (progress next changed done) t made (progress at new over) now
-        go x true ex ey k = slice_stop n w.sliced l ey
-        go true false ex ey k = absurd (let z : ◌≡◌ {A = ℕ} 0 1 = cc in omega arith)
-        go false false ex ey k = subst (λ z. Slice (Visit (kind_of kind t) g) (length g.owners) z (progress next changed done) t made (progress at new over) now) (le_antisymm l (ltb-false made n ex)) w.sliced
+    -- a job that is done stops
+    pub working_stop : (n : ℕ) → made ≤ n → at.done ≡ true → Slice (Visit (kind_of kind t) g) (length g.owners) n (stands from) t made (stands at) now
+    working_stop n l e = slice_stop n w.sliced l e
+
+    -- all visits were made
+    pub working_end : (n : ℕ) → n ≡ made → Slice (Visit (kind_of kind t) g) (length g.owners) n (stands from) t n (stands at) now
+    working_end n e = rw e w.sliced

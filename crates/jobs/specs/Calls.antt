@@ -1,24 +1,24 @@
 -- A slice of a job: its refusals in order, and what it makes of the job and of the lent tables.
-use Rattle.std.specs.Prelude.{Bool, ◌||◌, ◌≡◌, ℕ, ◌<◌, eqb, leb, ltb, length}
+use Rattle.grammar.specs.declared.refusal.Refusal.{Refusal}
+use Rattle.std.specs.Prelude.{Result}
+use Rattle.std.specs.Prelude.{Bool, ◌||◌, ◌≡◌, ℕ, ◌<◌, leb, length}
 use Rattle.theory.specs.Slices.{Progress, Slice}
 use Rattle.grammar.specs.Flat.{Flat}
-use Rattle.grammar.specs.Outcome.{Outcome, answers, refused, unless}
+use Rattle.grammar.specs.Lent.{outcome_of}
+use Rattle.grammar.specs.Outcome.{Outcome, answers, unless}
 use Rattle.grammar.specs.Refusals.{unless_due}
 use Rattle.grammar.specs.Well.{WellFormed}
 use Rattle.tables.specs.Call.{Call}
 use Rattle.jobs.specs.declared.Job.{Job}
-use Rattle.jobs.specs.declared.Sliced.{Sliced}
-use Rattle.jobs.specs.declared.Sliced.TheVariants.{Made, Refused}
-use Rattle.jobs.specs.Kinds.{Tables, Kind, kind_of, kind_wrong, Held, Visit}
-
--- the cases of the answer: the number of visits made, or the refusal
-abbrev pub sliced_is : Sliced → Outcome ℕ
-sliced_is (Made n) = answers n
-sliced_is (Refused n) = refused n
+use Rattle.jobs.specs.declared.inner.Stand.{Stand}
+use Rattle.jobs.specs.Kinds.{Tables, Kind, kind_of, no_kind, kind_wrong, Held, Visit}
 
 -- where the job stands, and the job of that kind that stands there
 abbrev pub progress : (next : ℕ) (changed done : Bool) → Progress
 progress next changed done = record { next = next; changed = changed; done = done }
+
+abbrev pub stands : Stand → Progress
+stands s = progress s.next s.changed s.done
 
 abbrev pub progress_of : Job → Progress
 progress_of j = progress j.next.0 j.changed j.done
@@ -28,7 +28,7 @@ job_at kind p = record { kind = kind; next = record { 0 = p.next }; changed = p.
 
 -- 17: the kind is 1 or above 4, or the next production is P or more
 abbrev pub job_wrong : (P kind next : ℕ) → Bool
-job_wrong P kind next = eqb kind 1 || (ltb 4 kind || leb P next)
+job_wrong P kind next = no_kind kind || leb P next
 
 -- 1 to 6; then 17; then 7 for the kind's tables
 abbrev pub slice_due : Flat → Job → Tables → Outcome (Unit {0})
@@ -54,8 +54,8 @@ pub record Works (g : Flat) (n : ℕ) (j : Job) (t : Tables) (said : Outcome ℕ
   pub job : after.job ≡ job_at j.kind stands
 
 -- the promise
-abbrev pub SliceOf : Flat → (n : ℕ) → Job → Tables → Sliced → Job → Tables → Type 0
-SliceOf g n j t r j' t' = Call (slice_due g j t) (Works g n j t) (lends j t) (sliced_is r) (lends j' t')
+abbrev pub SliceOf : Flat → (n : ℕ) → Job → Tables → Result ℕ Refusal → Job → Tables → Type 0
+SliceOf g n j t r j' t' = Call (slice_due g j t) (Works g n j t) (lends j t) (outcome_of r) (lends j' t')
 
 -- what the loop of visits asks: a well-formed grammar, a next production, the kind's tables of their lengths
 pub record Workable (k : Kind) (g : Flat) (next : ℕ) (t : Tables) : Type 0 where

@@ -1,6 +1,9 @@
 -- The tables that are lent to a job, and what each kind of job makes of them.
-use Rattle.std.specs.Prelude.{Bool, cond, ◌||◌, List, ◌≡◌, ℕ, ◌<◌, eqb, length}
+use Rattle.std.specs.Prelude.{Bool, cond, ◌||◌, List, ◌≡◌, ℕ, ◌<◌, eqb, ltb, length, Result, Ok, Err}
+use Rattle.grammar.specs.declared.refusal.Refusal.{Refusal}
 use Rattle.grammar.specs.Flat.{Flat}
+use Rattle.grammar.specs.Number.{number_of}
+use Rattle.grammar.specs.Outcome.{Outcome, answers, refused}
 use Rattle.grammar.specs.Well.{WellFormed}
 use Rattle.rows.specs.Tables.{Sized}
 use Rattle.tables.specs.Call.{Stepped}
@@ -10,6 +13,8 @@ use Rattle.engine.specs.Follow.{Reads, reads, lent, FollowBecame}
 use Rattle.engine.specs.Productive.{ProductiveBecame}
 use Rattle.engine.specs.Cost.{CostBecame}
 use Rattle.follows.specs.Calls.{lent_wrong}
+use Rattle.jobs.specs.declared.kind.Kind.{Kind as Named}
+use Rattle.jobs.specs.declared.kind.Kind.TheVariants.{First, Follow, Productive, Cost}
 
 -- all that is lent; which of them are due the kind says. The reached row is only read
 pub record Tables : Type 0 where
@@ -37,6 +42,22 @@ pub data Kind : Type 0 where
 -- 0 FIRST, 2 FOLLOW, 3 PRODUCTIVE, 4 COST; 1 is no kind
 abbrev pub kind_of : ℕ → Tables → Kind
 kind_of n t = cond (eqb n 0) first (cond (eqb n 2) (follow (read_of t)) (cond (eqb n 3) productive cost))
+
+-- the number of a named kind
+abbrev pub kind_number : Named → ℕ
+kind_number First = 0
+kind_number Follow = 2
+kind_number Productive = 3
+kind_number Cost = 4
+
+-- no kind has this number
+abbrev pub no_kind : ℕ → Bool
+no_kind n = eqb n 1 || ltb 4 n
+
+-- what a number was read as: a kind, by its number again, or a refusal
+abbrev pub kind_read : Result Named Refusal → Outcome ℕ
+kind_read (Ok k) = answers (kind_number k)
+kind_read (Err e) = refused (number_of e)
 
 -- 7: a table of the kind is not of its exact length; the others are not looked at
 abbrev pub kind_wrong : Kind → (R T : ℕ) → Tables → Bool

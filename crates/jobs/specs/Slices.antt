@@ -1,4 +1,6 @@
 -- Slices of one job one after another, on one grammar, with refused calls between; and what a done job has left.
+use Rattle.grammar.specs.declared.refusal.Refusal.{Refusal}
+use Rattle.std.specs.Prelude.{Result}
 use Rattle.std.specs.Prelude.{true, ◌≡◌, ℕ, ◌+◌, ◌*◌, ◌≤◌, length}
 use Rattle.theory.specs.Tables.{FirstTrue, FollowTrue, ProductiveTrue, CostTrue}
 use Rattle.theory.specs.Slices.{Progress, fresh}
@@ -13,7 +15,6 @@ use Rattle.follows.specs.Calls.{Defined as FollowDefined, Finished, begun}
 use Rattle.costs.specs.Calls.{zeros as row_zeros, unknown}
 use Rattle.costs.specs.Defined.{ProductiveDefined, CostDefined}
 use Rattle.jobs.specs.declared.Job.{Job}
-use Rattle.jobs.specs.declared.Sliced.{Sliced}
 use Rattle.jobs.specs.Kinds.{Tables, Kind, first, follow, productive, cost}
 use Rattle.jobs.specs.Calls.{job_at, slice_due, SliceOf}
 
@@ -52,8 +53,8 @@ bound cost g = g.rules
 -- slices on grammar g, whose lengths add up to n, with refused calls between, whatever these ask
 pub data Run (g : Flat) : ℕ → Job → Tables → Job → Tables → Type 0 where
   none : {j : Job} {t : Tables} → Run g 0 j t j t
-  slice : {m s : ℕ} {j i k : Job} {a b d : Tables} (n : ℕ) (r : Sliced) → m ≡ n + s → slice_due g j a ≡ answers tt → SliceOf g n j a r i b → Run g s i b k d → Run g m j a k d
-  between : {s : ℕ} {j i k : Job} {a b d : Tables} (h : Flat) (n m : ℕ) (r : Sliced) → slice_due h j a ≡ refused m → SliceOf h n j a r i b → Run g s i b k d → Run g s j a k d
+  slice : {m s : ℕ} {j i k : Job} {a b d : Tables} (n : ℕ) (r : Result ℕ Refusal) → m ≡ n + s → slice_due g j a ≡ answers tt → SliceOf g n j a r i b → Run g s i b k d → Run g m j a k d
+  between : {s : ℕ} {j i k : Job} {a b d : Tables} (h : Flat) (n m : ℕ) (r : Result ℕ Refusal) → slice_due h j a ≡ refused m → SliceOf h n j a r i b → Run g s i b k d → Run g s j a k d
 
 -- what slices whose lengths add up to n have come to, by the progress that is left
 pub record Comes (k : Kind) (g : Flat) (n : ℕ) (i : Progress) (t : Tables) : Type 0 where

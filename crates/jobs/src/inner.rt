@@ -1,23 +1,18 @@
 // A job below the public call: one production's step of a kind, where the job stands after it, visits one after another.
+ghost use Rattle.grammar.specs.Lent.{flat_of};
 ghost use Rattle.std.specs.Prelude.{false, ◌≡◌, ◌<◌, ◌≤◌, length};
 ghost use Rattle.theory.specs.Slices.{after, Slice};
-ghost use Rattle.grammar.specs.Flat.{flat};
-ghost use Rattle.jobs.specs.Kinds.{tables, kind_of, kind_wrong, Visit, Ready};
-ghost use Rattle.jobs.specs.Calls.{progress, Workable, SliceOf};
+ghost use Rattle.jobs.specs.Kinds.{tables, kind_of, kind_wrong, kind_number, Visit, Ready};
+ghost use Rattle.jobs.specs.Calls.{progress, stands, Workable};
 
-use crate::{JOB_COST, JOB_FIRST, JOB_FOLLOW, JOB_NONE, JOB_PRODUCTIVE, Job, Sliced};
-use grammar::inner::{number, wide};
-use grammar::{Checked, PIdx};
+use crate::Kind;
+use grammar::Grammar;
 use tables::inner::{numbers_wrong, row_wrong, table_wrong};
 
 // Production p's step in the tables of the kind.
 fn step(
-    kind: u16,
-    rules: u16,
-    owners: &[u16],
-    starts: &[u16],
-    symbols: &[u16],
-    costs: &[u8],
+    kind: Kind,
+    g: &Grammar,
     p: usize,
     first: &mut [u32],
     empty: &mut [u32],
@@ -26,28 +21,21 @@ fn step(
     cost: &mut [u32],
     reached: &[u32],
 ) -> bool
-    requires { Ready (kind_of kind (tables first.old empty.old follow.old productive.old cost.old reached.now)) (flat rules owners.now starts.now symbols.now costs.now) p (tables first.old empty.old follow.old productive.old cost.old reached.now) }
-    ensures { Visit (kind_of kind (tables first.old empty.old follow.old productive.old cost.old reached.now)) (flat rules owners.now starts.now symbols.now costs.now) p (tables first.old empty.old follow.old productive.old cost.old reached.now) result (tables first.new empty.new follow.new productive.new cost.new reached.now) }
+    requires { Ready (kind_of (kind_number kind) (tables first.old empty.old follow.old productive.old cost.old reached.now)) (flat_of g.now) p (tables first.old empty.old follow.old productive.old cost.old reached.now) }
+    ensures { Visit (kind_of (kind_number kind) (tables first.old empty.old follow.old productive.old cost.old reached.now)) (flat_of g.now) p (tables first.old empty.old follow.old productive.old cost.old reached.now) result (tables first.new empty.new follow.new productive.new cost.new reached.now) }
 {
-    if kind == JOB_FIRST {
-        return engine::inner::first::step(rules, owners, starts, symbols, costs, p, first, empty);
+    match kind {
+        Kind::First => engine::inner::first::step(g, p, first, empty),
+        Kind::Follow => engine::inner::follow::step(g, false, p, follow, first, empty, reached),
+        Kind::Productive => engine::inner::productive::step(g, p, productive),
+        Kind::Cost => {
+            let mut read = [false; 512];
+            engine::inner::cost::step(g, p, &mut read, cost).changed
+        }
     }
-    if kind == JOB_FOLLOW {
-        return engine::inner::follow::step(
-            rules, owners, starts, symbols, costs, false, p, follow, first, empty, reached,
-        );
-    }
-    if kind == JOB_PRODUCTIVE {
-        return engine::inner::productive::step(
-            rules, owners, starts, symbols, costs, p, productive,
-        );
-    }
-    let mut read: [bool; 512] = [false; 512];
-    let got = engine::inner::cost::step(rules, owners, starts, symbols, costs, p, &mut read, cost);
-    got.changed
 }
 
-// Where a job stands.
+// Where a job stands: the next production, whether this round changed anything, and whether it is done.
 #[derive(Clone, Copy)]
 pub struct Stand {
     pub next: u16,
@@ -55,46 +43,32 @@ pub struct Stand {
     pub done: bool,
 }
 
-// Where it stands after a visit of production `next`.
-fn moved(prods: usize, next: u16, changed: bool, got: bool) -> Stand
-    requires { (next < prods) × (prods ≤ 4096) }
-    ensures { progress result.next result.changed result.done ≡ after prods got (progress next changed false) }
+// Where it stands after a visit of its next production.
+fn moved(prods: usize, at: Stand, got: bool) -> Stand
+    requires { (at.next < prods) × (prods ≤ 4096) }
+    ensures { stands result ≡ after prods got (progress at.next at.changed false) }
 {
-    let both = changed | got;
-    if wide(next) + 1 == prods {
+    let changed = at.changed | got;
+    if usize::from(at.next) + 1 == prods {
         return Stand {
             next: 0,
             changed: false,
-            done: !both,
+            done: !changed,
         };
     }
     Stand {
-        next: next + 1,
-        changed: both,
+        next: at.next + 1,
+        changed,
         done: false,
     }
 }
 
-// Where the job stands after its visits, and how many they were.
-#[derive(Clone, Copy)]
-pub struct Worked {
-    pub next: u16,
-    pub changed: bool,
-    pub done: bool,
-    pub made: u32,
-}
-
-// At most n visits, in rising order from `next`, starting again at 0; fewer only when the job is or becomes done.
+// At most n visits, in rising order from where the job stands, starting again at 0; fewer only when the job is or becomes
+// done. Where it stands then, and how many visits they were.
 pub fn work(
-    kind: u16,
-    rules: u16,
-    owners: &[u16],
-    starts: &[u16],
-    symbols: &[u16],
-    costs: &[u8],
-    next: u16,
-    changed: bool,
-    done: bool,
+    kind: Kind,
+    g: &Grammar,
+    from: Stand,
     n: u32,
     first: &mut [u32],
     empty: &mut [u32],
@@ -102,23 +76,19 @@ pub fn work(
     productive: &mut [u32],
     cost: &mut [u32],
     reached: &[u32],
-) -> Worked
-    requires { Workable (kind_of kind (tables first.old empty.old follow.old productive.old cost.old reached.now)) (flat rules owners.now starts.now symbols.now costs.now) next (tables first.old empty.old follow.old productive.old cost.old reached.now) }
-    ensures { Slice (Visit (kind_of kind (tables first.old empty.old follow.old productive.old cost.old reached.now)) (flat rules owners.now starts.now symbols.now costs.now)) (length owners.now) n (progress next changed done) (tables first.old empty.old follow.old productive.old cost.old reached.now) result.made (progress result.next result.changed result.done) (tables first.new empty.new follow.new productive.new cost.new reached.now) }
+) -> (Stand, u32)
+    requires { Workable (kind_of (kind_number kind) (tables first.old empty.old follow.old productive.old cost.old reached.now)) (flat_of g.now) from.next (tables first.old empty.old follow.old productive.old cost.old reached.now) }
+    ensures { Slice (Visit (kind_of (kind_number kind) (tables first.old empty.old follow.old productive.old cost.old reached.now)) (flat_of g.now)) (length g.now.owners.now) n (stands from) (tables first.old empty.old follow.old productive.old cost.old reached.now) result.1 (stands result.0) (tables first.new empty.new follow.new productive.new cost.new reached.now) }
 {
-    let mut at = next;
-    let mut new = changed;
-    let mut over = done;
-    let mut made: u32 = 0;
-    while (made < n) & !over {
+    let mut at = from;
+    for made in 0..n {
+        if at.done {
+            return (at, made);
+        }
         let got = step(
             kind,
-            rules,
-            owners,
-            starts,
-            symbols,
-            costs,
-            wide(at),
+            g,
+            usize::from(at.next),
             first,
             empty,
             follow,
@@ -126,23 +96,14 @@ pub fn work(
             cost,
             reached,
         );
-        let s = moved(owners.len(), at, new, got);
-        at = s.next;
-        new = s.changed;
-        over = s.done;
-        made += 1;
+        at = moved(g.owners.len(), at, got);
     }
-    Worked {
-        next: at,
-        changed: new,
-        done: over,
-        made: made,
-    }
+    (at, n)
 }
 
 // Refusal 7: a table of the kind is not of its exact length. The others are not looked at.
-fn wrong(
-    kind: u16,
+pub fn wrong(
+    kind: Kind,
     rules: u16,
     tokens: usize,
     first: &[u32],
@@ -153,108 +114,19 @@ fn wrong(
     reached: &[u32],
 ) -> bool
     requires { (rules ≤ 512) × (tokens ≤ 512) }
-    ensures { result ≡ kind_wrong (kind_of kind (tables first.now empty.now follow.now productive.now cost.now reached.now)) rules tokens (tables first.now empty.now follow.now productive.now cost.now reached.now) }
+    ensures { result ≡ kind_wrong (kind_of (kind_number kind) (tables first.now empty.now follow.now productive.now cost.now reached.now)) rules tokens (tables first.now empty.now follow.now productive.now cost.now reached.now) }
 {
-    if kind == JOB_FIRST {
-        return table_wrong(rules, tokens, first.len()) | row_wrong(rules, empty.len());
-    }
-    if kind == JOB_FOLLOW {
-        return follows::inner::wrong(
+    match kind {
+        Kind::First => table_wrong(rules, tokens, first.len()) | row_wrong(rules, empty.len()),
+        Kind::Follow => follows::inner::wrong(
             rules,
             tokens,
             follow.len(),
             first.len(),
             empty.len(),
             reached.len(),
-        );
-    }
-    if kind == JOB_PRODUCTIVE {
-        return row_wrong(rules, productive.len());
-    }
-    numbers_wrong(rules, cost.len())
-}
-
-// What a slice leaves of the job, and what it answers.
-#[derive(Clone, Copy)]
-pub struct Left {
-    pub job: Job,
-    pub said: Sliced,
-}
-
-// A slice of n, on the job by value.
-pub fn sliced(
-    job: Job,
-    rules: u16,
-    owners: &[u16],
-    starts: &[u16],
-    symbols: &[u16],
-    costs: &[u8],
-    n: u32,
-    first: &mut [u32],
-    empty: &mut [u32],
-    follow: &mut [u32],
-    productive: &mut [u32],
-    cost: &mut [u32],
-    reached: &[u32],
-) -> Left
-    ensures { SliceOf (flat rules owners.now starts.now symbols.now costs.now) n job (tables first.old empty.old follow.old productive.old cost.old reached.now) result.said result.job (tables first.new empty.new follow.new productive.new cost.new reached.now) }
-{
-    let c = grammar::check(rules, owners, starts, symbols, costs);
-    let Checked::Well = c else {
-        return Left {
-            job: job,
-            said: Sliced::Refused(number(c)),
-        };
-    };
-    let kind = job.kind;
-    let next = job.next.0;
-    if (kind == JOB_NONE) | ((JOB_COST < kind) | (owners.len() <= wide(next))) {
-        return Left {
-            job: job,
-            said: Sliced::Refused(17),
-        };
-    }
-    if wrong(
-        kind,
-        rules,
-        costs.len(),
-        first,
-        empty,
-        follow,
-        productive,
-        cost,
-        reached,
-    ) {
-        return Left {
-            job: job,
-            said: Sliced::Refused(7),
-        };
-    }
-    let w = work(
-        kind,
-        rules,
-        owners,
-        starts,
-        symbols,
-        costs,
-        next,
-        job.changed,
-        job.done,
-        n,
-        first,
-        empty,
-        follow,
-        productive,
-        cost,
-        reached,
-    );
-    Left {
-        job: Job {
-            kind: kind,
-            next: PIdx(w.next),
-            changed: w.changed,
-            done: w.done,
-        },
-        said: Sliced::Made(w.made),
+        ),
+        Kind::Productive => row_wrong(rules, productive.len()),
+        Kind::Cost => numbers_wrong(rules, cost.len()),
     }
 }

@@ -1,13 +1,18 @@
 // Work in slices: a job fills one table by a few visits at a time.
 #![tactic(auto)]
 
-ghost use Rattle.grammar.specs.Flat.{flat};
+ghost use Rattle.grammar.specs.Lent.{flat_of};
 ghost use Rattle.jobs.specs.Kinds.{tables};
 ghost use Rattle.jobs.specs.Calls.{SliceOf};
 
-use grammar::PIdx;
+use grammar::inner::refuse_if;
+use grammar::{Grammar, PIdx, Refusal};
 
 pub mod inner;
+mod kind;
+
+use crate::inner::{Stand, work, wrong};
+pub use kind::Kind;
 
 // The kind of a job that fills FIRST and EMPTY.
 pub const JOB_FIRST: u16 = 0;
@@ -34,23 +39,12 @@ pub struct Job {
     pub done: bool,
 }
 
-// What a slice answers: the number of visits made.
-#[derive(Clone, Copy)]
-pub enum Sliced {
-    Made(u32),
-    Refused(u16),
-}
-
 // A slice of n: n visits in rising order from the job's next production, starting again at 0; fewer only when the job is
 // or becomes done. The job says where it stands afterwards. Refusals 1 to 6, 17, and 7 for the tables of the job's kind
 // (FOLLOW's are FOLLOW, FIRST, EMPTY and the reached row): the others are neither read nor written, and of any length.
 pub fn slice(
     job: &mut Job,
-    rules: u16,
-    owners: &[u16],
-    starts: &[u16],
-    symbols: &[u16],
-    costs: &[u8],
+    g: &Grammar,
     n: u32,
     first: &mut [u32],
     empty: &mut [u32],
@@ -58,13 +52,40 @@ pub fn slice(
     productive: &mut [u32],
     cost: &mut [u32],
     reached: &[u32],
-) -> Sliced
-    ensures { SliceOf (flat rules owners.now starts.now symbols.now costs.now) n job.old (tables first.old empty.old follow.old productive.old cost.old reached.now) result job.new (tables first.new empty.new follow.new productive.new cost.new reached.now) }
+) -> Result<u32, Refusal>
+    ensures { SliceOf (flat_of g.now) n job.old (tables first.old empty.old follow.old productive.old cost.old reached.now) result job.new (tables first.new empty.new follow.new productive.new cost.new reached.now) }
 {
-    let left = inner::sliced(
-        *job, rules, owners, starts, symbols, costs, n, first, empty, follow, productive, cost,
-        reached,
+    grammar::check(g)?;
+    let kind = Kind::try_from(job.kind)?;
+    let next = job.next.0;
+    refuse_if(g.owners.len() <= usize::from(next), Refusal::Job)?;
+    refuse_if(
+        wrong(
+            kind,
+            g.rules,
+            g.costs.len(),
+            first,
+            empty,
+            follow,
+            productive,
+            cost,
+            reached,
+        ),
+        Refusal::Length,
+    )?;
+    let from = Stand {
+        next,
+        changed: job.changed,
+        done: job.done,
+    };
+    let (to, made) = work(
+        kind, g, from, n, first, empty, follow, productive, cost, reached,
     );
-    *job = left.job;
-    left.said
+    *job = Job {
+        kind: job.kind,
+        next: PIdx(to.next),
+        changed: to.changed,
+        done: to.done,
+    };
+    Ok(made)
 }

@@ -8,6 +8,7 @@ ghost use Rattle.lines.specs.Lent.{tables, tables_wrong, out_wrong, entry_of, Re
 
 use costs::{COST_DEAR, COST_MAX};
 use engine::inner::cost::entry_at;
+use grammar::Refusal;
 use rows::inner::is_set;
 use tables::inner::{numbers_wrong, row_wrong, table_wrong, words_for};
 
@@ -23,13 +24,8 @@ pub fn copy(text: &[u8], out: &mut [u8], at: usize) -> usize
     requires { Room out.old at text.now }
     ensures { Appended out.old at text.now out.new result }
 {
-    let mut next = at;
-    let mut i: usize = 0;
-    while i < text.len() {
-        out[next] = text[i];
-        next += 1;
-        i += 1;
-    }
+    let next = at + text.len();
+    out[at..next].copy_from_slice(text);
     next
 }
 
@@ -75,12 +71,10 @@ fn set(table: &[u32], width: usize, r: usize, tokens: usize, out: &mut [u8], at:
 {
     let mut next = at;
     let mut some = false;
-    let mut t: usize = 0;
-    while t < tokens {
+    for t in 0..tokens {
         let on = is_set(table, width, r, t);
         next = member(t, on, some, out, next);
-        some = some | on;
-        t += 1;
+        some |= on;
     }
     next
 }

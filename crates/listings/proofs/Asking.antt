@@ -1,7 +1,7 @@
 -- What is due, from what `check` and the tests on the way answered; what is known where nothing is; and the promises of both calls from it.
 use mathlib.Core.Bool.{Bool, true, false, not, ◌||◌}
 use mathlib.Core.List.{List}
-use mathlib.Core.Path.{◌≡◌, refl, sym, ◌∙◌, ap}
+use mathlib.Core.Path.{◌≡◌, refl, sym, ◌∙◌}
 use Prim.Native.Nat.{ℕ, ◌≤◌, ◌<◌}
 use lib.Dec.{eqb, leb}
 use lib.ListN.{length, replicate}
@@ -9,11 +9,9 @@ use borrow.Author.Tests.{eqb-true, le-leb, lt-leb, leb-false, not-false}
 use Rattle.theory.proofs.Bools.{or_none}
 use Rattle.grammar.specs.Flat.{Flat}
 use Rattle.grammar.specs.Outcome.{Outcome, answers, refused, unless}
-use Rattle.grammar.specs.Production.{checked_is, check_of, number_of}
+use Rattle.grammar.specs.Production.{check_of}
 use Rattle.grammar.specs.Refusals.{unless_due}
 use Rattle.grammar.specs.Well.{WellFormed}
-use Rattle.grammar.specs.declared.Checked.{Checked}
-use Rattle.grammar.specs.declared.Checked.TheVariants.{Well, Refused as Not}
 use Rattle.grammar.proofs.Lowest.{after_well, after_refused}
 use Rattle.grammar.proofs.Outcomes.{not_both}
 use Rattle.grammar.proofs.Well.{well}
@@ -24,11 +22,11 @@ use Rattle.listings.specs.Calls.{work, due_by, all_due, Counts, Numbers, CountDo
 use Rattle.listings.specs.Working.{Workable, Worked, CountReady, NumberReady}
 
 -- `due`: the grammar is refused, or one of the tests that follow
-module _ (g : Flat) (rule cost lengths counts : ℕ) (c : Checked) (is : checked_is c ≡ check_of g) where
-  pub due_grammar : (n : ℕ) → c ≡ Not n → checked_is c ≡ due_by g rule cost lengths counts
-  due_grammar n e = ap checked_is e ∙ sym (after_refused g c _ n is e)
+module _ (g : Flat) (rule cost lengths counts : ℕ) (c : Outcome (Unit {0})) (is : c ≡ check_of g) where
+  pub due_grammar : (n : ℕ) → c ≡ refused n → refused n ≡ due_by g rule cost lengths counts
+  due_grammar n e = sym (after_refused g c _ n is e)
 
-  module _ (e : c ≡ Well) (n : ℕ) (en : n ≡ g.rules) where
+  module _ (e : c ≡ answers tt) (n : ℕ) (en : n ≡ g.rules) where
     abbrev tests : Bool
     tests = not (eqb cost n) || (not (eqb lengths n) || not (eqb counts n))
 
@@ -51,8 +49,8 @@ unless_due_done : (g : Flat) (x : Outcome (Unit {0})) → unless_due g x ≡ ans
 unless_due_done g x d = go (check_of g) refl
   where
     go : (o : Outcome (Unit {0})) → check_of g ≡ o → (check_of g ≡ answers tt) × (x ≡ answers tt)
-    go (answers tt) e = (e, sym (after_well g Well x (sym e) refl) ∙ d)
-    go (refused n) e = absurd (not_both (sym d ∙ after_refused g (Not n) x n (sym e) refl))
+    go (answers tt) e = (e, sym (after_well g (answers tt) x (sym e) refl) ∙ d)
+    go (refused n) e = absurd (not_both (sym d ∙ after_refused g (refused n) x n (sym e) refl))
 
 -- a well-formed grammar, tables of their exact lengths, one of its rules
 pub record Entered (g : Flat) (rule cost lengths counts : ℕ) : Type 0 where
@@ -82,9 +80,9 @@ pub due_rule : (g : Flat) (rule cost lengths counts : ℕ) → due_by g rule cos
 due_rule g rule cost lengths counts d = (entered g rule cost lengths counts d).is_rule
 
 -- what the answers ask, once the tables are final
-module _ (g : Flat) (r cost lengths counts : ℕ) (d : Checked) (is : checked_is d ≡ due_by g r cost lengths counts) (e : d ≡ Well) (cost' next' choice' lengths' counts' : List ℕ) (w : Worked g cost' next' choice' lengths' counts') where
+module _ (g : Flat) (r cost lengths counts : ℕ) (d : Outcome (Unit {0})) (is : d ≡ due_by g r cost lengths counts) (e : d ≡ answers tt) (cost' next' choice' lengths' counts' : List ℕ) (w : Worked g cost' next' choice' lengths' counts') where
   asked : Entered g r cost lengths counts
-  asked = entered g r cost lengths counts (sym is ∙ ap checked_is e)
+  asked = entered g r cost lengths counts (sym is ∙ e)
 
   pub ask_count : CountReady g r cost' counts'
   ask_count = record {
@@ -98,13 +96,13 @@ module _ (g : Flat) (r cost lengths counts : ℕ) (d : Checked) (is : checked_is
   ask_number = record { well = asked.well_formed; worked = w; is_rule = asked.is_rule }
 
 -- both calls, r being the rule asked for
-module _ (g : Flat) (rule : ℕ) (cost lengths counts : List ℕ) (r : ℕ) (er : r ≡ rule) (d : Checked) (is : checked_is d ≡ due_by g r (length cost) (length lengths) (length counts)) where
-  due_is : checked_is d ≡ all_due g rule (work cost lengths counts)
+module _ (g : Flat) (rule : ℕ) (cost lengths counts : List ℕ) (r : ℕ) (er : r ≡ rule) (d : Outcome (Unit {0})) (is : d ≡ due_by g r (length cost) (length lengths) (length counts)) where
+  due_is : d ≡ all_due g rule (work cost lengths counts)
   due_is = rw er at is
 
-  module _ (n m : ℕ) (e : d ≡ Not n) (q : m ≡ number_of d) where
+  module _ (m : ℕ) (e : d ≡ refused m) where
     refused_is : all_due g rule (work cost lengths counts) ≡ refused m
-    refused_is = sym due_is ∙ ap checked_is e ∙ ap refused (sym (q ∙ ap number_of e))
+    refused_is = sym due_is ∙ e
 
     pub ask_count_refused : Call (all_due g rule (work cost lengths counts)) (CountDone g rule) (work cost lengths counts) (refused m) (work cost lengths counts)
     ask_count_refused = call_refused m refused_is
@@ -112,12 +110,12 @@ module _ (g : Flat) (rule : ℕ) (cost lengths counts : List ℕ) (r : ℕ) (er 
     pub ask_number_refused : (k : ℕ) (out : List ℕ) → Call (all_due g rule (work cost lengths counts)) (NumberDone g rule k out) (lends (work cost lengths counts) out) (refused m) (lends (work cost lengths counts) out)
     ask_number_refused k out = call_refused m refused_is
 
-  module _ (e : d ≡ Well) where
+  module _ (e : d ≡ answers tt) where
     known : Entered g r (length cost) (length lengths) (length counts)
-    known = entered g r (length cost) (length lengths) (length counts) (sym is ∙ ap checked_is e)
+    known = entered g r (length cost) (length lengths) (length counts) (sym is ∙ e)
 
     done : all_due g rule (work cost lengths counts) ≡ answers tt
-    done = sym due_is ∙ ap checked_is e
+    done = sym due_is ∙ e
 
     pub ask_work : Workable g cost (replicate 4096 4096) (replicate 512 4096) lengths counts
     ask_work = record {

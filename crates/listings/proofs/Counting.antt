@@ -5,7 +5,7 @@ use mathlib.Core.Logic.{◌⊎◌, inl, inr}
 use mathlib.Core.Path.{◌≡◌, refl, sym, ap, ◌∙◌, subst, subst₂, fun_ext}
 use Prim.Native.Nat.{ℕ, suc, ◌+◌, ◌*◌, ◌-◌, ◌≤◌, ◌<◌, min}
 use native.Mathlib.Decide.{dec_le, dec_lt, ℕ_discrete}
-use native.Mathlib.Nat.{one-mul, mul-one}
+use native.Mathlib.Nat.{add-zero, one-mul, mul-one}
 use native.Mathlib.Omega.{arith}
 use lib.Dec.{leb}
 use lib.ListN.{length, get_or, set, replicate, length-set, length-replicate}
@@ -29,9 +29,10 @@ use Rattle.theory.proofs.Counting.{shallow_dear, shallow_at, ways_skip, counting
 use Rattle.grammar.specs.Flat.{Flat, at, form, denoted, price}
 use Rattle.grammar.specs.Links.{Leads}
 use Rattle.grammar.proofs.Denoted.{proper}
-use Rattle.grammar.proofs.Forms.{form_done, form_token, form_rule, prod_in, Placed, placed}
+use Rattle.grammar.proofs.Forms.{prod_in, Placed, placed}
 use Rattle.rows.proofs.Tables.{cleared_at}
 use Rattle.engine.specs.Cost.{costs_of}
+use Rattle.engine.proofs.Spans.{span, span_done, span_in, span_is, span_token, span_rule}
 use Rattle.engine.proofs.Summing.{default_same}
 use Rattle.sentences.specs.Choosing.{FromReady, CheapestFrom}
 use Rattle.sentences.specs.Lent.{choices_of}
@@ -122,52 +123,52 @@ module _ (g : Flat) (next cost choice : List ℕ) (gr : Ground g next cost choic
     pub next_less : length g.owners - to < length g.owners - q
     next_less = omega (arith, next_above, c.is_prod)
 
--- a production: the symbols from a up to i are counted
+-- a production: the first i symbols from a on are counted
 pub record Producing (g : Flat) (cost : List ℕ) (levels a e : ℕ) (old : List ℕ) (i n : ℕ) (counts shallow : List ℕ) : Type 0 where
-  pub low : a ≤ i
-  pub high : i ≤ e
+  pub high : a + i ≤ e
   pub cap : n ≤ 65536
   pub on : CountOn g cost old counts shallow
-  pub within : all_marked (deep_by g cost g.rules) (form g.symbols a e) ≡ all_marked (deep_by g cost g.rules) (form g.symbols i e)
-  pub ways : min (form_ways (many_by g cost) (form g.symbols a e)) 65536 ≡ min (n * form_ways (many_by g cost) (form g.symbols i e)) 65536
-  pub fails : all_marked (deep_by g cost levels) (form g.symbols i e) ≡ false → all_marked (deep_by g cost levels) (form g.symbols a e) ≡ false
+  pub within : all_marked (deep_by g cost g.rules) (form g.symbols a e) ≡ all_marked (deep_by g cost g.rules) (form g.symbols (a + i) e)
+  pub ways : min (form_ways (many_by g cost) (form g.symbols a e)) 65536 ≡ min (n * form_ways (many_by g cost) (form g.symbols (a + i) e)) 65536
+  pub fails : all_marked (deep_by g cost levels) (form g.symbols (a + i) e) ≡ false → all_marked (deep_by g cost levels) (form g.symbols a e) ≡ false
 
 module _ (g : Flat) (next cost choice : List ℕ) (levels a e : ℕ) (old olds : List ℕ) (ok : ProductionCountable g next cost choice levels a e old olds) where
-  pub producing_start : Producing g cost levels a e old a 1 old olds
+  pub producing_start : Producing g cost levels a e old 0 1 old olds
   producing_start = record {
-    low = omega arith;
-    high = ok.rise;
+    high = omega (arith, ok.rise);
     cap = omega arith;
     on = record { begun = ok.begun; keeps = λ r l. refl };
-    within = refl;
-    ways = ap (λ (z : ℕ). min z 65536) (sym (one-mul (form_ways (many_by g cost) (form g.symbols a e))));
-    fails = λ z. z;
+    within = rw (add-zero a);
+    ways = rw (add-zero a) (ap (λ (z : ℕ). min z 65536) (sym (one-mul (form_ways (many_by g cost) (form g.symbols a e)))));
+    fails = λ z. rw (add-zero a) at z;
   }
 
   module _ (i n : ℕ) (counts shallow : List ℕ) (x : Producing g cost levels a e old i n counts shallow) where
     pub producing_long : length counts ≡ length old
     producing_long = x.on.begun.long ∙ sym ok.begun.long
 
-    pub producing_end : e ≤ i → ProductionCounts g cost levels a e old n counts shallow
+    pub producing_end : length (span g.symbols a e) ≤ i → ProductionCounts g cost levels a e old n counts shallow
     producing_end l =
-        let d = form_done g.symbols i e x.high l in
+        let d = span_done g.symbols a e ok.inside i x.high l in
         record {
           on = x.on;
           within = λ _. x.within ∙ rw d refl;
-          known = λ _. let f : form_ways (many_by g cost) (form g.symbols i e) ≡ 1 = rw d refl in omega (arith, x.ways, x.cap, ap (λ (z : ℕ). n * z) f, mul-one n);
+          known = λ _. let f : form_ways (many_by g cost) (form g.symbols (a + i) e) ≡ 1 = rw d refl in omega (arith, x.ways, x.cap, ap (λ (z : ℕ). n * z) f, mul-one n);
           none = λ z. absurd (omega (arith, x.cap));
         }
 
-    module _ (l : i < e) (s : ℕ) (es : s ≡ at g.symbols i) where
-      pub producing_symbol : i < length g.symbols
-      producing_symbol = omega (arith, ok.inside)
+    module _ (l : i < length (span g.symbols a e)) (s : ℕ) (es : s ≡ at (span g.symbols a e) i) where
+      below : a + i < e
+      below = span_in g.symbols a e ok.inside i l
+
+      pub producing_symbol : a + i < length g.symbols
+      producing_symbol = omega (arith, ok.inside, below)
 
       pub producing_token : s < 32768 → Producing g cost levels a e old (i + 1) n counts shallow
       producing_token low =
-          let f = form_token g.symbols i e s es l ok.inside low in
+          let f = span_token g.symbols a e ok.inside i l s es low in
           record {
-            low = omega (arith, x.low);
-            high = omega arith;
+            high = omega (arith, below);
             cap = x.cap;
             on = x.on;
             within = x.within ∙ rw f refl;
@@ -176,14 +177,14 @@ module _ (g : Flat) (next cost choice : List ℕ) (levels a e : ℕ) (old olds :
           }
 
       module _ (high : 32768 ≤ s) (r : ℕ) (er : r ≡ s - 32768) where
-        opens : form g.symbols i e ≡ rul r ∷ form g.symbols (i + 1) e
-        opens = rw er (form_rule g.symbols i e s es l ok.inside high)
+        opens : form g.symbols (a + i) e ≡ rul r ∷ form g.symbols (a + (i + 1)) e
+        opens = rw er (span_rule g.symbols a e ok.inside i l s es high)
 
         pub producing_rule : RuleCountable g next cost choice levels r counts shallow
         producing_rule = record {
           ground = ok.ground;
           most = ok.most;
-          is_rule = omega (arith, (ok.ground.well.symbols i producing_symbol).rule (omega arith));
+          is_rule = omega (arith, span_is g.symbols a e ok.inside i l s es, (ok.ground.well.symbols (a + i) producing_symbol).rule (omega (arith, span_is g.symbols a e ok.inside i l s es)));
           begun = x.on.begun;
         }
 
@@ -213,20 +214,19 @@ module _ (g : Flat) (next cost choice : List ℕ) (levels a e : ℕ) (old olds :
 
             pub producing_on : (to : ℕ) → to ≡ min (n * y) 65536 → Producing g cost levels a e old (i + 1) to counts' shallow'
             producing_on to q = record {
-              low = omega (arith, x.low);
-              high = omega arith;
+              high = omega (arith, below);
               cap = omega arith;
               on = on;
               within = x.within ∙ rw opens (rw is.0 refl);
               ways =
                   x.ways
                   ∙ ap (λ z. min (n * form_ways (many_by g cost) z) 65536) opens
-                  ∙ cut_on n y (many_by g cost r) (form_ways (many_by g cost) (form g.symbols (i + 1) e)) is.1
-                  ∙ ap (λ (z : ℕ). min (z * form_ways (many_by g cost) (form g.symbols (i + 1) e)) 65536) (sym q);
+                  ∙ cut_on n y (many_by g cost r) (form_ways (many_by g cost) (form g.symbols (a + (i + 1)) e)) is.1
+                  ∙ ap (λ (z : ℕ). min (z * form_ways (many_by g cost) (form g.symbols (a + (i + 1)) e)) 65536) (sym q);
               fails = λ z. x.fails (rw opens (fails_tail (deep_by g cost levels r) z));
             }
               where
-                fails_tail : (b : Bool) → all_marked (deep_by g cost levels) (form g.symbols (i + 1) e) ≡ false → (b && all_marked (deep_by g cost levels) (form g.symbols (i + 1) e)) ≡ false
+                fails_tail : (b : Bool) → all_marked (deep_by g cost levels) (form g.symbols (a + (i + 1)) e) ≡ false → (b && all_marked (deep_by g cost levels) (form g.symbols (a + (i + 1)) e)) ≡ false
                 fails_tail true z = z
                 fails_tail false z = refl
 

@@ -1,21 +1,21 @@
 -- The promises of the count and of number i determine the answer and every lent number: any two results that they allow are equal.
+use Rattle.grammar.proofs.Determined.{outcome_one}
+use Rattle.grammar.specs.declared.refusal.Refusal.{Refusal}
+use Rattle.std.specs.Prelude.{Result}
 use mathlib.Core.List.{List}
-use mathlib.Core.Path.{◌≡◌, refl, sym, ◌∙◌, ap, subst}
+use mathlib.Core.Path.{◌≡◌, sym, ◌∙◌, ap, subst}
 use Prim.Native.Nat.{ℕ}
 use lib.ListN.{length}
 use lib.Seq.{ext_get_or}
 use Rattle.theory.proofs.Counts.{counts_one}
 use Rattle.grammar.specs.Flat.{Flat, denoted, price}
-use Rattle.grammar.specs.Outcome.{Outcome, answers, refused}
-use Rattle.tables.proofs.Calls.{Both, call_one, told_apart}
+use Rattle.grammar.specs.Outcome.{Outcome}
+use Rattle.tables.proofs.Calls.{Both, call_one}
 use Rattle.engine.specs.Cost.{costs_of}
 use Rattle.costs.proofs.Determined.{cost_defined_one}
-use Rattle.sentences.specs.declared.Length.{Length as Answer}
-use Rattle.listings.specs.declared.Counted.{Counted}
-use Rattle.listings.specs.declared.Counted.TheVariants.{Are, Refused as Not}
-use Rattle.listings.specs.Calls.{counted_is, counts_of, CountsDefined, Work, work, Final, all_due, Counts, Numbers, CountDone, CountMinSentences, Lends, lends, NumberDone, MinSentenceAt}
+use Rattle.listings.specs.Calls.{counts_of, CountsDefined, Work, work, Final, all_due, Counts, Numbers, CountDone, CountMinSentences, Lends, lends, NumberDone, MinSentenceAt}
 use Rattle.sentences.specs.Measuring.{LengthsDefined}
-use Rattle.sentences.proofs.Determined.{lengths_defined_one, length_answer_one}
+use Rattle.sentences.proofs.Determined.{lengths_defined_one}
 use Rattle.listings.proofs.Exactly.{fate, counts_said, row, numbers_said, numbers_left}
 
 -- numbers of one length that mean the same counts are the same
@@ -52,34 +52,23 @@ number_done_one g r i out s t a b x y =
     let o = numbers_left x.numbers f ∙ sym (numbers_left z f) in
     record { said = numbers_said x.numbers f ∙ sym (numbers_said z f); left = ap (λ w. lends w a.out) e ∙ ap (lends b.tables) o }
 
-counted_one : (a b : Counted) → counted_is a ≡ counted_is b → a ≡ b
-counted_one = told_apart counted_is back same
-  where
-    back : Outcome ℕ → Counted
-    back (answers n) = Are n
-    back (refused n) = Not n
-
-    same : (a : Counted) → back (counted_is a) ≡ a
-    same (Are n) = refl
-    same (Not n) = refl
-
 -- two results of the count, and two of number i
-pub record SameCount (r s : Counted) (a b : Work) : Type 0 where
+pub record SameCount (r s : Result ℕ Refusal) (a b : Work) : Type 0 where
   pub answer : r ≡ s
   pub tables : a ≡ b
 
-pub count_min_sentences_one : (g : Flat) (rule : ℕ) (cost lengths counts : List ℕ) {r s : Counted} {c l n c' l' n' : List ℕ}
+pub count_min_sentences_one : (g : Flat) (rule : ℕ) (cost lengths counts : List ℕ) {r s : Result ℕ Refusal} {c l n c' l' n' : List ℕ}
     → CountMinSentences g rule cost lengths counts r c l n → CountMinSentences g rule cost lengths counts s c' l' n' → SameCount r s (work c l n) (work c' l' n')
 count_min_sentences_one g rule cost lengths counts {r} {s} x y =
     let o = call_one (count_done_one g rule) (all_due g rule (work cost lengths counts)) x y in
-    record { answer = counted_one r s o.said; tables = o.left }
+    record { answer = outcome_one o.said; tables = o.left }
 
-pub record SameNumber (r s : Answer) (a b : Lends) : Type 0 where
+pub record SameNumber (r s : Result ℕ Refusal) (a b : Lends) : Type 0 where
   pub answer : r ≡ s
   pub memory : a ≡ b
 
-pub min_sentence_at_one : (g : Flat) (rule i : ℕ) (cost lengths counts out : List ℕ) {r s : Answer} {c l n o c' l' n' o' : List ℕ}
+pub min_sentence_at_one : (g : Flat) (rule i : ℕ) (cost lengths counts out : List ℕ) {r s : Result ℕ Refusal} {c l n o c' l' n' o' : List ℕ}
     → MinSentenceAt g rule i cost lengths counts out r c l n o → MinSentenceAt g rule i cost lengths counts out s c' l' n' o' → SameNumber r s (lends (work c l n) o) (lends (work c' l' n') o')
 min_sentence_at_one g rule i cost lengths counts out {r} {s} x y =
     let o = call_one (number_done_one g rule i out) (all_due g rule (work cost lengths counts)) x y in
-    record { answer = length_answer_one r s o.said; memory = o.left }
+    record { answer = outcome_one o.said; memory = o.left }

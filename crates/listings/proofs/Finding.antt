@@ -22,8 +22,7 @@ use Rattle.grammar.proofs.Denoted.{proper}
 use Rattle.grammar.proofs.Forms.{prod_in, Placed, placed}
 use Rattle.engine.specs.Cost.{costs_of}
 use Rattle.sentences.specs.Choosing.{FromReady, CheapestFrom}
-use Rattle.odometer.specs.declared.inner.Turned.{Turned}
-use Rattle.odometer.specs.declared.inner.Turned.TheVariants.{At, Past}
+use Rattle.std.specs.Prelude.{Option, None, Some}
 use Rattle.listings.specs.Calls.{counts_of}
 use Rattle.listings.specs.Counting.{deep_by}
 use Rattle.listings.specs.Numbers.{PlacesReady, Places, Numbered, Finds, lists_by}
@@ -137,9 +136,9 @@ module _ (g : Flat) (next cost choice counts : List ℕ) (levels r k : ℕ) (ok 
 
         module _ (to : List ℕ) where
           -- it is shown
-          pub find_found : (said : Turned) → Turns bases m left todo said to → said ≡ At → Finds g cost counts levels r k p to
+          pub find_found : (said : Option ℕ) → Turns bases m left todo said to → said ≡ None → Finds g cost counts levels r k p to
           find_found said made told =
-              let t : Turns bases m left todo At to = subst (λ z. Turns bases m left todo z to) told made in
+              let t : Turns bases m left todo None to = subst (λ z. Turns bases m left todo z to) told made in
               let same : take m to ≡ take (length (places (counts_of counts) ((denoted g).body p))) to = ap (λ (z : ℕ). take z to) (h.many ∙ ap length (sym places_same)) in
               record {
                 room = t.room;
@@ -151,8 +150,8 @@ module _ (g : Flat) (next cost choice counts : List ℕ) (levels r k : ℕ) (ok 
               }
 
           -- it is past this production
-          module _ (said : Turned) (made : Turns bases m left todo said to) (rest : ℕ) (told : said ≡ Past rest) (after : ℕ) (en : after ≡ at next p) where
-            t : Turns bases m left todo (Past rest) to
+          module _ (said : Option ℕ) (made : Turns bases m left todo said to) (rest : ℕ) (told : said ≡ Some rest) (after : ℕ) (en : after ≡ at next p) where
+            t : Turns bases m left todo (Some rest) to
             t = subst (λ z. Turns bases m left todo z to) told made
 
             again : to ≡ replicate 16 0

@@ -12,29 +12,30 @@ use Rattle.theory.proofs.Listing.{deep_at}
 use Rattle.theory.proofs.Numbers.{found_item}
 use Rattle.theory.proofs.Odometer.{picked_front}
 use Rattle.grammar.specs.Flat.{Flat, at, denoted, price}
-use Rattle.grammar.proofs.Forms.{form_done, prod_in, Placed, placed}
+use Rattle.grammar.proofs.Forms.{prod_in, Placed, placed}
 use Rattle.engine.specs.Cost.{costs_of}
+use Rattle.engine.proofs.Spans.{span, span_done}
 use Rattle.listings.specs.Calls.{counts_of}
 use Rattle.listings.specs.Counting.{deep_by}
 use Rattle.listings.specs.Numbers.{Numbered, NumberReady, Finds, lists_by, rule_words, production_words, RuleMeasurable, ProductionMeasurable}
 use Rattle.listings.proofs.Finding.{deep_here, inside_exact, ways_few}
-use Rattle.listings.proofs.Along.{length_first, Along, left_words, along_start, along_token, token_words, along_deep, along_rule, along_one, one_words, along_more, along_number, place_words}
+use Rattle.listings.proofs.Along.{length_first, Along, left_words, along_start, start_words, along_token, token_words, along_deep, along_rule, along_one, one_words, along_more, along_number, place_words}
 
 -- n is the token count so far, cut at 65536
 pub record Measuring (g : Flat) (cost counts : List ℕ) (levels a e : ℕ) (todo : List ℕ) (i j n : ℕ) : Type 0 where
   pub along : Along g cost counts levels a e todo i j
   pub cap : n ≤ 65536
-  pub rest : min (length (production_words g cost counts levels a e todo)) 65536 ≡ min (n + length (left_words g cost counts levels e todo i j)) 65536
+  pub rest : min (length (production_words g cost counts levels a e todo)) 65536 ≡ min (n + length (left_words g cost counts levels a e todo i j)) 65536
 
 module _ (g : Flat) (next cost choice lengths counts : List ℕ) (levels a e : ℕ) (todo : List ℕ) (ok : ProductionMeasurable g next cost choice lengths counts levels a e todo) where
-  pub measuring_start : Measuring g cost counts levels a e todo a 0 0
-  measuring_start = record { along = along_start g next cost choice lengths counts levels a e todo ok; cap = omega arith; rest = omega arith }
+  pub measuring_start : Measuring g cost counts levels a e todo 0 0 0
+  measuring_start = record { along = along_start g next cost choice lengths counts levels a e todo ok; cap = omega arith; rest = omega (arith, ap length (start_words g next cost choice lengths counts levels a e todo ok)) }
 
   module _ (i j n : ℕ) (x : Measuring g cost counts levels a e todo i j n) where
-    pub measuring_end : e ≤ i → n ≡ min (length (production_words g cost counts levels a e todo)) 65536
-    measuring_end l = omega (arith, x.cap, x.rest, ap (λ z. length (picked (lists_by g cost levels) (counts_of counts) z (drop j todo)).tokens) (form_done g.symbols i e x.along.high l))
+    pub measuring_end : length (span g.symbols a e) ≤ i → n ≡ min (length (production_words g cost counts levels a e todo)) 65536
+    measuring_end l = omega (arith, x.cap, x.rest, ap (λ z. length (picked (lists_by g cost levels) (counts_of counts) z (drop j todo)).tokens) (span_done g.symbols a e ok.inside i x.along.high l))
 
-    module _ (l : i < e) (s : ℕ) (es : s ≡ at g.symbols i) where
+    module _ (l : i < length (span g.symbols a e)) (s : ℕ) (es : s ≡ at (span g.symbols a e) i) where
       pub measuring_one : (n ≤ 65536) × (1 ≤ 65536)
       measuring_one = (x.cap, omega arith)
 
@@ -62,7 +63,7 @@ module _ (g : Flat) (next cost choice lengths counts : List ℕ) (levels a e : �
               x.rest,
               first,
               ap length (one_words g next cost choice lengths counts levels a e todo ok i j x.along l s es high r er c ec one),
-              length-append (rule_words g cost levels r 0) (left_words g cost counts levels e todo (i + 1) j),
+              length-append (rule_words g cost levels r 0) (left_words g cost counts levels a e todo (i + 1) j),
             );
           }
 
@@ -83,7 +84,7 @@ module _ (g : Flat) (next cost choice lengths counts : List ℕ) (levels a e : �
                 x.rest,
                 ey,
                 ap length (place_words g next cost choice lengths counts levels a e todo ok i j x.along l s es high r er c ec d k ek),
-                length-append (rule_words g cost levels r k) (left_words g cost counts levels e todo (i + 1) (j + 1)),
+                length-append (rule_words g cost levels r k) (left_words g cost counts levels a e todo (i + 1) (j + 1)),
               );
             }
 

@@ -1,4 +1,5 @@
 -- What the finished tables say of a rule: 12 to 14, 16, how many; and of number k: 15, or its sentence.
+use Rattle.grammar.specs.Outcome.{Outcome}
 use mathlib.Core.Bool.{true, false, ◌&&◌, true≢false}
 use mathlib.Core.List.{List, ◌++◌}
 use mathlib.Core.Logic.{◌⊎◌, inl, inr}
@@ -23,20 +24,18 @@ use Rattle.theory.proofs.Counts.{known_count, count_one, count_known}
 use Rattle.grammar.specs.Flat.{Flat, at, denoted, price}
 use Rattle.grammar.specs.Outcome.{answers, refused}
 use Rattle.grammar.proofs.Denoted.{proper}
-use Rattle.grammar.proofs.Outcomes.{not_both, refused_one, answers_one}
+use Rattle.grammar.proofs.Outcomes.{not_both, answers_one}
 use Rattle.sentences.specs.Expanding.{Wrote}
 use Rattle.sentences.proofs.Expanding.{remembers_none}
 use Rattle.engine.specs.Cost.{costs_of}
 use Rattle.engine.proofs.Summing.{entry}
-use Rattle.costs.specs.Query.{entry_due}
-use Rattle.costs.proofs.Entry.{due_cost, due_none, due_12, due_13}
+use Rattle.costs.specs.Query.{entry_due, entry_refusal}
+use Rattle.costs.proofs.Entry.{due_cost, due_none, due_12, due_13, refusal_due, refusal_none}
 use Rattle.sentences.specs.Query.{Refuses}
-use Rattle.listings.specs.declared.Counted.{Counted}
-use Rattle.listings.specs.declared.Counted.TheVariants.{Are, Refused as Not}
-use Rattle.listings.specs.Calls.{counted_is, counts_of, work, Lists, Counts, Numbers}
+use Rattle.listings.specs.Calls.{counts_of, work, Lists, Counts, Numbers}
 use Rattle.listings.specs.Counting.{deep_by, many_by, Ground}
 use Rattle.listings.specs.Numbers.{rule_words, RuleMeasurable, RuleWritable}
-use Rattle.listings.specs.Working.{CountReady, NumberReady, refusal_of}
+use Rattle.listings.specs.Working.{CountReady, NumberReady}
 use Rattle.listings.proofs.Counting.{count_entry}
 use Rattle.listings.proofs.Exactly.{Fate, none as no_sentence, dear, circular, many as too_many, is, fate}
 
@@ -123,16 +122,16 @@ module _ (g : Flat) (r : ℕ) (cost counts : List ℕ) (ok : CountReady g r cost
       }
 
 -- the same from what the tests on the way answered
-module _ (g : Flat) (r : ℕ) (cost counts : List ℕ) (ok : CountReady g r cost counts) (least : ℕ) (el : least ≡ at cost r) (due : ℕ) (ed : due ≡ entry_due least) where
-  is_due : due ≡ entry_due (costs_of cost r)
-  is_due = ed ∙ ap entry_due (el ∙ sym (entry cost r (omega (arith, ok.is_rule, ok.cost_defined.long))))
+module _ (g : Flat) (r : ℕ) (cost counts : List ℕ) (ok : CountReady g r cost counts) (least : ℕ) (el : least ≡ at cost r) where
+  is_due : entry_due least ≡ entry_due (costs_of cost r)
+  is_due = ap entry_due (el ∙ sym (entry cost r (omega (arith, ok.is_rule, ok.cost_defined.long))))
 
-  pub count_due : (due ≡ 0 → ⊥) → Counts g (costs_of cost) r (refused due)
-  count_due h = counts_due g r cost counts ok due is_due h
+  pub count_due : (due : ℕ) → refused due ≡ entry_refusal least → Counts g (costs_of cost) r (refused due)
+  count_due due h = let k = refusal_due least due h in counts_due g r cost counts ok due (k.0 ∙ is_due) k.1
 
-  module _ (h : due ≡ 0) (total : ℕ) (et : total ≡ at counts r) where
+  module _ (h : answers tt ≡ entry_refusal least) (total : ℕ) (et : total ≡ at counts r) where
     cheap : costs_of cost r ≤ 65535
-    cheap = due_none (costs_of cost r) (sym is_due ∙ h)
+    cheap = due_none (costs_of cost r) (sym is_due ∙ sym (refusal_none least h))
 
     is_count : total ≡ counts_of counts r
     is_count = et ∙ sym (count_entry counts r (omega (arith, ok.is_rule, ok.counts_defined.long)))
@@ -160,28 +159,25 @@ module _ (g : Flat) (r : ℕ) (cost next choice lengths counts : List ℕ) (ok :
   ground : Ground g next cost choice
   ground = record { well = ok.well; links = ok.worked.links; prices = ok.worked.final.cost; picks = ok.worked.picks }
 
-  module _ (a : Counted) (said : Counts g (costs_of cost) r (counted_is a)) (k : ℕ) where
+  module _ (a : Outcome ℕ) (said : Counts g (costs_of cost) r a) (k : ℕ) where
     -- a refused count is refused here too
-    pub number_refused : (out : List ℕ) (n m : ℕ) → a ≡ Not n → m ≡ refusal_of a → Numbers g (costs_of cost) r k out (refused m) out
-    number_refused out n m e q = record {
+    pub number_refused : (out : List ℕ) (n : ℕ) → a ≡ refused n → Numbers g (costs_of cost) r k out (refused n) out
+    number_refused out n e = record {
       none = λ h. same 12 (said.none h);
       dear = λ h s. same 13 (said.dear h s);
       circular = λ y. same 14 (said.circular y);
       past = λ l h. same 16 (said.many l (over l h));
-      long = λ l h i t. absurd (not_both (sym (said.is l h) ∙ ap counted_is e));
-      is = λ l h i s t. absurd (not_both (sym (said.is l h) ∙ ap counted_is e));
+      long = λ l h i t. absurd (not_both (sym (said.is l h) ∙ e));
+      is = λ l h i s t. absurd (not_both (sym (said.is l h) ∙ e));
     }
       where
-        same : (i : ℕ) → counted_is a ≡ refused i → Refuses i out (refused m) out
-        same i d = record { number = ap refused (q ∙ ap refusal_of e ∙ refused_one (sym (ap counted_is e) ∙ d)); kept = refl }
+        same : (i : ℕ) → a ≡ refused i → Refuses i out (refused n) out
+        same i d = record { number = sym e ∙ d; kept = refl }
 
         over : (l : Lists g (costs_of cost) r) → (65535 < many_by g cost r) ⊎ (many_by g cost r ≤ k) → 65535 < many_by g cost r
-        over l h = elim (dec_le (many_by g cost r) 65535) [ yes i ↦ absurd (not_both (sym (said.is l i) ∙ ap counted_is e)) | no i ↦ omega arith ]
+        over l h = elim (dec_le (many_by g cost r) 65535) [ yes i ↦ absurd (not_both (sym (said.is l i) ∙ e)) | no i ↦ omega arith ]
 
-    module _ (total : ℕ) (e : a ≡ Are total) where
-      told : counted_is a ≡ answers total
-      told = ap counted_is e
-
+    module _ (total : ℕ) (told : a ≡ answers total) where
       total_is : Lists g (costs_of cost) r → many_by g cost r ≤ 65535 → total ≡ many_by g cost r
       total_is l h = answers_one (sym told ∙ said.is l h)
 
@@ -237,13 +233,13 @@ module _ (g : Flat) (r : ℕ) (cost next choice lengths counts : List ℕ) (ok :
         words_are : rule_words g cost n r k ≡ sentence_at (denoted g) (price g) (costs_of cost) r k
         words_are = ap (λ (z : ℕ). rule_words g cost z r k) en
 
-        module _ (long : ℕ) (el : long ≡ min (length (rule_words g cost n r k)) 65536) (s : ℕ) (es : s ≡ long) (out : List ℕ) where
-          module _ (f : (leb long 65535 && leb s (length out)) ≡ true) where
+        module _ (long : ℕ) (el : long ≡ min (length (rule_words g cost n r k)) 65536) (out : List ℕ) where
+          module _ (f : (leb long 65535 && leb long (length out)) ≡ true) where
             short : length (rule_words g cost n r k) ≡ long
             short = omega (arith, el, leb-true long 65535 (and_split (leb long 65535) _ f).0)
 
             room : length (rule_words g cost n r k) ≤ length out
-            room = omega (arith, short, es, leb-true s (length out) (and_split (leb long 65535) _ f).1)
+            room = omega (arith, short, leb-true long (length out) (and_split (leb long 65535) _ f).1)
 
             pub number_write : RuleWritable g next cost choice lengths counts n r k 0 (replicate 512 65535) out
             number_write = record {
@@ -278,14 +274,14 @@ module _ (g : Flat) (r : ℕ) (cost next choice lengths counts : List ℕ) (ok :
                 fits (inl h) = omega (arith, short, ap length words_are, leb-true long 65535 (and_split (leb long 65535) _ f).0)
                 fits (inr h) = omega (arith, room, ap length words_are)
 
-          pub number_long : (leb long 65535 && leb s (length out)) ≡ false → Numbers g (costs_of cost) r k out (refused 15) out
+          pub number_long : (leb long 65535 && leb long (length out)) ≡ false → Numbers g (costs_of cost) r k out (refused 15) out
           number_long f = record {
             none = λ h. absurd (not_both (sym told ∙ said.none h));
             dear = λ h i. absurd (not_both (sym told ∙ said.dear h i));
             circular = λ y. absurd (lists.straight y);
             past = λ l h. absurd (over h);
             long = λ l h j t. record { number = refl; kept = refl };
-            is = λ l h j u v. absurd (true≢false (sym (and_join (le-leb long 65535 (omega (arith, el, u, ap length words_are))) (le-leb s (length out) (omega (arith, el, es, u, v, ap length words_are)))) ∙ f));
+            is = λ l h j u v. absurd (true≢false (sym (and_join (le-leb long 65535 (omega (arith, el, u, ap length words_are))) (le-leb long (length out) (omega (arith, el, u, v, ap length words_are)))) ∙ f));
           }
             where
               over : (65535 < many_by g cost r) ⊎ (many_by g cost r ≤ k) → ⊥

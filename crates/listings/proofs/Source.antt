@@ -1,5 +1,8 @@
 -- Demand 2 for all cheapest sentences, on every grammar that the crate can build: where the source's `min_sentences` returns, the count is
 -- that of its list, and number k is what stands at place k of it.
+use Rattle.grammar.specs.declared.refusal.Refusal.{Refusal}
+use Rattle.std.specs.Prelude.{Result}
+use Rattle.grammar.specs.Lent.{outcome_of}
 use mathlib.Core.List.{List, [], map}
 use mathlib.Core.Path.{◌≡◌, sym, ◌∙◌, ap, subst}
 use Prim.Native.Nat.{ℕ, ◌≤◌, ◌<◌}
@@ -18,10 +21,8 @@ use Rattle.grammar.specs.Outcome.{Outcome, answers, refused}
 use Rattle.grammar.specs.Well.{Built}
 use Rattle.grammar.proofs.Denoted.{proper}
 use Rattle.engine.specs.Cost.{costs_of}
-use Rattle.sentences.specs.declared.Length.{Length as Answer}
-use Rattle.sentences.specs.Query.{length_is, Writes}
-use Rattle.listings.specs.declared.Counted.{Counted}
-use Rattle.listings.specs.Calls.{counted_is, Work, work, Final, all_due, Lists, CountDone, CountMinSentences, Lends, NumberDone, MinSentenceAt}
+use Rattle.sentences.specs.Query.{Writes}
+use Rattle.listings.specs.Calls.{Work, work, Final, all_due, Lists, CountDone, CountMinSentences, Lends, NumberDone, MinSentenceAt}
 use Rattle.listings.proofs.Asking.{due_rule}
 
 -- b is the source's list of costs, if it asks for one; sts is what its `min_sentences` returns
@@ -58,14 +59,14 @@ module _ (g : Flat) (w : Built g) (r : ℕ) (is_rule : r < g.rules) (b : Costs) 
 
 -- the same of the calls, whatever was lent to them
 pub count_source : (g : Flat) → Built g → (r : ℕ) (cost lengths counts : List ℕ) → all_due g r (work cost lengths counts) ≡ answers tt
-    → (q : Counted) (cost' lengths' counts' : List ℕ) → CountMinSentences g r cost lengths counts q cost' lengths' counts'
-    → (b : Costs) (sts : List (List ℕ)) → Returns (denoted g) (price g) b r sts → length sts ≤ 65535 → counted_is q ≡ answers (length sts)
+    → (q : Result ℕ Refusal) (cost' lengths' counts' : List ℕ) → CountMinSentences g r cost lengths counts q cost' lengths' counts'
+    → (b : Costs) (sts : List (List ℕ)) → Returns (denoted g) (price g) b r sts → length sts ≤ 65535 → outcome_of q ≡ answers (length sts)
 count_source g w r cost lengths counts due q cost' lengths' counts' m b sts y h = count_equal g w r (due_rule g r (length cost) (length lengths) (length counts) due) b sts y (m.does due) h
 
 pub number_source : (g : Flat) → Built g → (r k : ℕ) (cost lengths counts out : List ℕ) → all_due g r (work cost lengths counts) ≡ answers tt
-    → (q : Answer) (cost' lengths' counts' out' : List ℕ) → MinSentenceAt g r k cost lengths counts out q cost' lengths' counts' out'
+    → (q : Result ℕ Refusal) (cost' lengths' counts' out' : List ℕ) → MinSentenceAt g r k cost lengths counts out q cost' lengths' counts' out'
     → (b : Costs) (sts : List (List ℕ)) → Returns (denoted g) (price g) b r sts → length sts ≤ 65535 → k < length sts
-    → length (get_or sts k []) ≤ 65535 → length (get_or sts k []) ≤ length out → Writes (get_or sts k []) out (length_is q) out'
+    → length (get_or sts k []) ≤ 65535 → length (get_or sts k []) ≤ length out → Writes (get_or sts k []) out (outcome_of q) out'
 number_source g w r k cost lengths counts out due q cost' lengths' counts' out' m b sts y few lt short room =
     number_equal g w r (due_rule g r (length cost) (length lengths) (length counts) due) b sts y k out (m.does due) few lt short room
 

@@ -1,7 +1,7 @@
 -- Number k written: a production with its choices, symbol by symbol, and a rule by its first choice or by the production that has it.
 use mathlib.Core.Bool.{true}
 use mathlib.Core.List.{List, [], ◌∷◌, ◌++◌, append-nil, append_assoc}
-use mathlib.Core.Path.{◌≡◌, refl, sym, ap, ◌∙◌, subst}
+use mathlib.Core.Path.{◌≡◌, sym, ap, ◌∙◌, subst}
 use Prim.Native.Nat.{ℕ, ◌+◌, ◌-◌, ◌≤◌, ◌<◌}
 use native.Mathlib.Omega.{arith}
 use lib.ListN.{length, length-append, set, drop}
@@ -10,10 +10,10 @@ use Rattle.theory.specs.Odometer.{picked}
 use Rattle.theory.proofs.Numbers.{deep_within, listing_first}
 use Rattle.grammar.specs.Flat.{Flat, at, denoted, price}
 use Rattle.grammar.proofs.Denoted.{proper}
-use Rattle.grammar.proofs.Forms.{form_done}
 use Rattle.tables.specs.Append.{Appended}
 use Rattle.tables.proofs.Appending.{appended_long, appended_none, appended_one, appended_then}
 use Rattle.engine.specs.Cost.{costs_of}
+use Rattle.engine.proofs.Spans.{span, span_done}
 use Rattle.sentences.specs.Expanding.{Led, Remembers, Wrote, RuleReady}
 use Rattle.sentences.specs.Lent.{choices_of}
 use Rattle.sentences.specs.Measuring.{LengthsDefined}
@@ -21,7 +21,7 @@ use Rattle.sentences.proofs.Expanding.{leads_way, remembers_more}
 use Rattle.listings.specs.Calls.{counts_of}
 use Rattle.listings.specs.Counting.{deep_by, Ground}
 use Rattle.listings.specs.Numbers.{Finds, lists_by, rule_words, production_words, RuleWritable, ProductionWritable}
-use Rattle.listings.proofs.Along.{Along, left_words, along_start, along_token, token_words, along_deep, along_rule, along_one, one_words, along_more, along_number, place_words}
+use Rattle.listings.proofs.Along.{Along, left_words, along_start, start_words, along_token, token_words, along_deep, along_rule, along_one, one_words, along_more, along_number, place_words}
 use Rattle.listings.proofs.Measuring.{measured_production, measured_words}
 
 -- number 0 is the sentence by first choices
@@ -50,38 +50,38 @@ module _ (g : Flat) (next cost choice lengths : List ℕ) (gr : Ground g next co
   pub first_wrote : (at' x : ℕ) (out then new : List ℕ) → Wrote g choice out at' (expanded (denoted g) (choices_of choice) levels r) then new x → Wrote g choice out at' (rule_words g cost levels r 0) then new x
   first_wrote at' x out then new h = subst (λ z. Wrote g choice out at' z then new x) (sym first_words) h
 
--- w is written for the symbols from a up to i
+-- w is written for the first i symbols from a on
 pub record Writing (g : Flat) (cost choice counts : List ℕ) (levels a e : ℕ) (todo : List ℕ) (at : ℕ) (old : List ℕ) (i j to : ℕ) (begun out : List ℕ) : Type 0 where
   pub along : Along g cost counts levels a e todo i j
   pub w : List ℕ
   pub wrote : Appended old at w out to
-  pub whole : production_words g cost counts levels a e todo ≡ w ++ left_words g cost counts levels e todo i j
+  pub whole : production_words g cost counts levels a e todo ≡ w ++ left_words g cost counts levels a e todo i j
   pub remembers : Remembers g choice begun to out
 
 module _ (g : Flat) (next cost choice lengths counts : List ℕ) (levels a e : ℕ) (todo : List ℕ) (at' : ℕ) (first old : List ℕ) (ok : ProductionWritable g next cost choice lengths counts levels a e todo at' first old) where
-  pub writing_start : Writing g cost choice counts levels a e todo at' old a 0 at' first old
-  writing_start = record { along = along_start g next cost choice lengths counts levels a e todo ok.measure; w = []; wrote = appended_none old at'; whole = refl; remembers = ok.remembers }
+  pub writing_start : Writing g cost choice counts levels a e todo at' old 0 0 at' first old
+  writing_start = record { along = along_start g next cost choice lengths counts levels a e todo ok.measure; w = []; wrote = appended_none old at'; whole = start_words g next cost choice lengths counts levels a e todo ok.measure; remembers = ok.remembers }
 
   module _ (i j to : ℕ) (begun out : List ℕ) (x : Writing g cost choice counts levels a e todo at' old i j to begun out) where
     -- the room for what is left
-    room : to + length (left_words g cost counts levels e todo i j) ≤ length out
-    room = omega (arith, ok.room, ap length x.whole, length-append x.w (left_words g cost counts levels e todo i j), x.wrote.next, appended_long x.wrote)
+    room : to + length (left_words g cost counts levels a e todo i j) ≤ length out
+    room = omega (arith, ok.room, ap length x.whole, length-append x.w (left_words g cost counts levels a e todo i j), x.wrote.next, appended_long x.wrote)
 
-    low_room : to + length (left_words g cost counts levels e todo i j) ≤ 65535
-    low_room = omega (arith, ok.most, ap length x.whole, length-append x.w (left_words g cost counts levels e todo i j), x.wrote.next)
+    low_room : to + length (left_words g cost counts levels a e todo i j) ≤ 65535
+    low_room = omega (arith, ok.most, ap length x.whole, length-append x.w (left_words g cost counts levels a e todo i j), x.wrote.next)
 
     pub writing_long : length out ≡ length old
     writing_long = appended_long x.wrote
 
-    pub writing_end : e ≤ i → Wrote g choice old at' (production_words g cost counts levels a e todo) begun out to
+    pub writing_end : length (span g.symbols a e) ≤ i → Wrote g choice old at' (production_words g cost counts levels a e todo) begun out to
     writing_end l = record {
-      appends = subst (λ z. Appended old at' z out to) (sym (x.whole ∙ ap (λ z. x.w ++ (picked (lists_by g cost levels) (counts_of counts) z (drop j todo)).tokens) (form_done g.symbols i e x.along.high l) ∙ append-nil x.w)) x.wrote;
+      appends = subst (λ z. Appended old at' z out to) (sym (x.whole ∙ ap (λ z. x.w ++ (picked (lists_by g cost levels) (counts_of counts) z (drop j todo)).tokens) (span_done g.symbols a e ok.measure.inside i x.along.high l) ∙ append-nil x.w)) x.wrote;
       remembers = x.remembers;
     }
 
-    module _ (l : i < e) (s : ℕ) (es : s ≡ at g.symbols i) where
+    module _ (l : i < length (span g.symbols a e)) (s : ℕ) (es : s ≡ at (span g.symbols a e) i) where
       module _ (low : s < 32768) where
-        words : left_words g cost counts levels e todo i j ≡ s ∷ left_words g cost counts levels e todo (i + 1) j
+        words : left_words g cost counts levels a e todo i j ≡ s ∷ left_words g cost counts levels a e todo (i + 1) j
         words = token_words g next cost choice lengths counts levels a e todo ok.measure i j x.along l s es low
 
         pub writing_place : to < length out
@@ -95,13 +95,13 @@ module _ (g : Flat) (next cost choice lengths counts : List ℕ) (levels a e : �
           along = along_token g next cost choice lengths counts levels a e todo ok.measure i j x.along l s es low;
           w = x.w ++ (s ∷ []);
           wrote = appended_then x.wrote (appended_one out to s);
-          whole = x.whole ∙ ap (λ z. x.w ++ z) words ∙ sym (append_assoc x.w (s ∷ []) (left_words g cost counts levels e todo (i + 1) j));
+          whole = x.whole ∙ ap (λ z. x.w ++ z) words ∙ sym (append_assoc x.w (s ∷ []) (left_words g cost counts levels a e todo (i + 1) j));
           remembers = remembers_more x.remembers (appended_one out to s);
         }
 
       module _ (high : 32768 ≤ s) (r : ℕ) (er : r ≡ s - 32768) (c : ℕ) (ec : c ≡ at counts r) where
         module _ (one : c ≡ 1) where
-          one_left : left_words g cost counts levels e todo i j ≡ rule_words g cost levels r 0 ++ left_words g cost counts levels e todo (i + 1) j
+          one_left : left_words g cost counts levels a e todo i j ≡ rule_words g cost levels r 0 ++ left_words g cost counts levels a e todo (i + 1) j
           one_left = one_words g next cost choice lengths counts levels a e todo ok.measure i j x.along l s es high r er c ec one
 
           deep_r : deep_by g cost levels r ≡ true
@@ -112,8 +112,8 @@ module _ (g : Flat) (next cost choice lengths counts : List ℕ) (levels a e : �
 
           pub writing_first : RuleReady g choice lengths levels r to begun out
           writing_first = first_ready g next cost choice lengths ok.measure.ground ok.measure.lengths_defined levels r is_rule_law deep_r to begun out
-              (omega (arith, room, ap length one_left, length-append (rule_words g cost levels r 0) (left_words g cost counts levels e todo (i + 1) j)))
-              (omega (arith, low_room, ap length one_left, length-append (rule_words g cost levels r 0) (left_words g cost counts levels e todo (i + 1) j)))
+              (omega (arith, room, ap length one_left, length-append (rule_words g cost levels r 0) (left_words g cost counts levels a e todo (i + 1) j)))
+              (omega (arith, low_room, ap length one_left, length-append (rule_words g cost levels r 0) (left_words g cost counts levels a e todo (i + 1) j)))
               x.remembers
 
           pub writing_one : (next' : ℕ) (then new : List ℕ) → Wrote g choice out to (expanded (denoted g) (choices_of choice) levels r) then new next' → Writing g cost choice counts levels a e todo at' old (i + 1) j next' then new
@@ -121,19 +121,19 @@ module _ (g : Flat) (next cost choice lengths counts : List ℕ) (levels a e : �
             along = along_one g next cost choice lengths counts levels a e todo ok.measure i j x.along l s es high r er c ec one;
             w = x.w ++ rule_words g cost levels r 0;
             wrote = appended_then x.wrote (first_wrote g next cost choice lengths ok.measure.ground ok.measure.lengths_defined levels r is_rule_law deep_r to next' out then new h).appends;
-            whole = x.whole ∙ ap (λ z. x.w ++ z) one_left ∙ sym (append_assoc x.w (rule_words g cost levels r 0) (left_words g cost counts levels e todo (i + 1) j));
+            whole = x.whole ∙ ap (λ z. x.w ++ z) one_left ∙ sym (append_assoc x.w (rule_words g cost levels r 0) (left_words g cost counts levels a e todo (i + 1) j));
             remembers = h.remembers;
           }
 
         module _ (d : c ≡ 1 → ⊥) (k : ℕ) (ek : k ≡ at todo j) where
-          more_left : left_words g cost counts levels e todo i j ≡ rule_words g cost levels r k ++ left_words g cost counts levels e todo (i + 1) (j + 1)
+          more_left : left_words g cost counts levels a e todo i j ≡ rule_words g cost levels r k ++ left_words g cost counts levels a e todo (i + 1) (j + 1)
           more_left = place_words g next cost choice lengths counts levels a e todo ok.measure i j x.along l s es high r er c ec d k ek
 
           pub writing_rule : RuleWritable g next cost choice lengths counts levels r k to begun out
           writing_rule = record {
             measure = along_number g next cost choice lengths counts levels a e todo ok.measure i j x.along l s es high r er c ec d k ek;
-            room = omega (arith, room, ap length more_left, length-append (rule_words g cost levels r k) (left_words g cost counts levels e todo (i + 1) (j + 1)));
-            most = omega (arith, low_room, ap length more_left, length-append (rule_words g cost levels r k) (left_words g cost counts levels e todo (i + 1) (j + 1)));
+            room = omega (arith, room, ap length more_left, length-append (rule_words g cost levels r k) (left_words g cost counts levels a e todo (i + 1) (j + 1)));
+            most = omega (arith, low_room, ap length more_left, length-append (rule_words g cost levels r k) (left_words g cost counts levels a e todo (i + 1) (j + 1)));
             remembers = x.remembers;
           }
 
@@ -142,7 +142,7 @@ module _ (g : Flat) (next cost choice lengths counts : List ℕ) (levels a e : �
             along = along_more g next cost choice lengths counts levels a e todo ok.measure i j x.along l s es high r er c ec d;
             w = x.w ++ rule_words g cost levels r k;
             wrote = appended_then x.wrote h.appends;
-            whole = x.whole ∙ ap (λ z. x.w ++ z) more_left ∙ sym (append_assoc x.w (rule_words g cost levels r k) (left_words g cost counts levels e todo (i + 1) (j + 1)));
+            whole = x.whole ∙ ap (λ z. x.w ++ z) more_left ∙ sym (append_assoc x.w (rule_words g cost levels r k) (left_words g cost counts levels a e todo (i + 1) (j + 1)));
             remembers = h.remembers;
           }
 

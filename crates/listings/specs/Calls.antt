@@ -1,4 +1,7 @@
 -- All cheapest sentences: the working tables are filled, then the sentences are counted, or number k is written, or 12 to 16 given.
+use Rattle.grammar.specs.declared.refusal.Refusal.{Refusal}
+use Rattle.std.specs.Prelude.{Result}
+use Rattle.grammar.specs.Lent.{outcome_of}
 use Rattle.std.specs.Prelude.{not, ◌||◌, List, ◌⊎◌, ◌≡◌, ℕ, ◌≤◌, ◌<◌, eqb, leb, length, get_or}
 use Rattle.theory.specs.Entries.{cost_max, length_max, count_max, count_none}
 use Rattle.theory.specs.Definitions.{Sentence, cost_of, Productive}
@@ -12,16 +15,8 @@ use Rattle.grammar.specs.Refusals.{unless_due}
 use Rattle.tables.specs.Call.{Call}
 use Rattle.engine.specs.Cost.{costs_of}
 use Rattle.costs.specs.Defined.{CostDefined}
-use Rattle.sentences.specs.declared.Length.{Length as Answer}
-use Rattle.listings.specs.declared.Counted.{Counted}
-use Rattle.listings.specs.declared.Counted.TheVariants.{Are, Refused as Not}
 use Rattle.sentences.specs.Measuring.{LengthsDefined}
-use Rattle.sentences.specs.Query.{length_is, Refuses, Writes}
-
--- the cases of the count's answer: how many, or the refusal
-abbrev pub counted_is : Counted → Outcome ℕ
-counted_is (Are n) = answers n
-counted_is (Not n) = refused n
+use Rattle.sentences.specs.Query.{Refuses, Writes}
 
 -- counts: a number for each rule, 65537 for none known; none is known outside the rules
 unfoldable pub counts_of : List ℕ → Costs
@@ -90,9 +85,9 @@ pub record CountDone (g : Flat) (r : ℕ) (said : Outcome ℕ) (after : Work) : 
   pub counts : Counts g (costs_of after.cost) r said
 
 -- the promise of the count
-abbrev pub CountMinSentences : Flat → ℕ → (cost lengths counts : List ℕ) → Counted → (cost' lengths' counts' : List ℕ) → Type 0
+abbrev pub CountMinSentences : Flat → ℕ → (cost lengths counts : List ℕ) → Result ℕ Refusal → (cost' lengths' counts' : List ℕ) → Type 0
 CountMinSentences g r cost lengths counts a cost' lengths' counts' =
-    Call (all_due g r (work cost lengths counts)) (CountDone g r) (work cost lengths counts) (counted_is a) (work cost' lengths' counts')
+    Call (all_due g r (work cost lengths counts)) (CountDone g r) (work cost lengths counts) (outcome_of a) (work cost' lengths' counts')
 
 -- what the call that writes is lent: the tables, and the output
 pub record Lends : Type 0 where
@@ -108,6 +103,6 @@ pub record NumberDone (g : Flat) (r k : ℕ) (out : List ℕ) (said : Outcome �
   pub numbers : Numbers g (costs_of after.tables.cost) r k out said after.out
 
 -- the promise of number k
-abbrev pub MinSentenceAt : Flat → ℕ → ℕ → (cost lengths counts out : List ℕ) → Answer → (cost' lengths' counts' out' : List ℕ) → Type 0
+abbrev pub MinSentenceAt : Flat → ℕ → ℕ → (cost lengths counts out : List ℕ) → Result ℕ Refusal → (cost' lengths' counts' out' : List ℕ) → Type 0
 MinSentenceAt g r k cost lengths counts out a cost' lengths' counts' out' =
-    Call (all_due g r (work cost lengths counts)) (NumberDone g r k out) (lends (work cost lengths counts) out) (length_is a) (lends (work cost' lengths' counts') out')
+    Call (all_due g r (work cost lengths counts)) (NumberDone g r k out) (lends (work cost lengths counts) out) (outcome_of a) (lends (work cost' lengths' counts') out')

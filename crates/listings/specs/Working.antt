@@ -5,8 +5,6 @@ use Rattle.grammar.specs.Well.{WellFormed}
 use Rattle.engine.specs.Cost.{costs_of}
 use Rattle.costs.specs.Defined.{CostDefined}
 use Rattle.sentences.specs.Choosing.{FirstChoices}
-use Rattle.listings.specs.declared.Counted.{Counted}
-use Rattle.listings.specs.declared.Counted.TheVariants.{Are, Refused as Not}
 use Rattle.listings.specs.Calls.{CountsDefined, work, Final}
 use Rattle.listings.specs.Counting.{Nexts}
 
@@ -37,8 +35,3 @@ pub record NumberReady (g : Flat) (r : ℕ) (cost next choice lengths counts : L
   pub well : WellFormed g
   pub worked : Worked g cost next choice lengths counts
   pub is_rule : r < g.rules
-
--- the number of a refused count, 0 where there is none
-abbrev pub refusal_of : Counted → ℕ
-refusal_of (Are n) = 0
-refusal_of (Not n) = n

@@ -7,10 +7,9 @@ use native.Mathlib.Omega.{arith}
 use lib.ListN.{length, take, drop, set, length-set, get_or}
 use lib.Seq.{take-set-lt, drop-set-lt, get_or-take, get_or-drop, drop-drop, take-suc, take-suc-set, take_at, get_or_at, length-take-le}
 use Rattle.theory.specs.Odometer.{product, Fits, zeros, turns, Carrying}
-use Rattle.theory.proofs.Odometer.{zeros_append, product_append, turns_append, fits_parts, parts_fit, fits_length, turns_zeros, carry_start, carry_below, carry_fits, carry_turns, carry_on, carry_spills, carry_zeros}
+use Rattle.theory.proofs.Odometer.{zeros_append, product_append, turns_append, fits_parts, parts_fit, fits_length, turns_zeros, carry_below, carry_fits, carry_turns, carry_on, carry_spills, carry_zeros}
 use Rattle.odometer.specs.Turning.{Turnable, Turns}
-use Rattle.odometer.specs.declared.inner.Turned.{Turned}
-use Rattle.odometer.specs.declared.inner.Turned.TheVariants.{At, Past}
+use Rattle.std.specs.Prelude.{Option, None, Some}
 
 -- so many turns are left
 pub record Turning (bases : List ℕ) (m k : ℕ) (start todo : List ℕ) (left : ℕ) : Type 0 where
@@ -23,7 +22,7 @@ pub record Turning (bases : List ℕ) (m k : ℕ) (start todo : List ℕ) (left 
   pub rest : drop m todo ≡ drop m start
 
 -- a turn is on its way, at place j
-pub record Turned' (bases : List ℕ) (m k : ℕ) (were : List ℕ) (left : ℕ) (todo : List ℕ) (j : ℕ) : Type 0 where
+pub record Turned (bases : List ℕ) (m k : ℕ) (were : List ℕ) (left : ℕ) (todo : List ℕ) (j : ℕ) : Type 0 where
   pub begun : Turning bases m k were were (suc left)
   pub todo_long : length todo ≡ 16
   pub carry : Carrying (take m bases) (take m were) j (take m todo)
@@ -48,18 +47,7 @@ module _ (bases : List ℕ) (m k : ℕ) where
     rest = refl;
   }
 
-  pub turning_end : (start todo : List ℕ) (left : ℕ) → Turning bases m k start todo left → left ≡ 0 → Turns bases m k start At todo
-  turning_end start todo left t e = record { room = t.todo_long; shows = (t.fits, omega (arith, t.made)); rest = t.rest }
-
-  pub turned_start : (start todo : List ℕ) (left : ℕ) → Turning bases m k start todo left → (left ≡ 0 → ⊥) → Turned' bases m k todo (left - 1) todo m
-  turned_start start todo left t n = record {
-    begun = subst (λ (z : ℕ). Turning bases m k todo todo z) {x = left} {y = suc (left - 1)} (omega (arith, n)) (record { few = t.few; bases_long = t.bases_long; todo_long = t.todo_long; low = t.low; fits = t.fits; made = t.made; rest = refl });
-    todo_long = t.todo_long;
-    carry = carry_start (take m bases) (take m todo) t.fits m (sym (length-take-le m bases (omega (arith, t.few, t.bases_long))));
-    rest = refl;
-  }
-
-  module _ (were : List ℕ) (left : ℕ) (todo : List ℕ) (i : ℕ) (t : Turned' bases m k were left todo i) (some : i ≡ 0 → ⊥) where
+  module _ (were : List ℕ) (left : ℕ) (todo : List ℕ) (i : ℕ) (t : Turned bases m k were left todo i) (some : 0 < i) where
     down : suc (i - 1) ≡ i
     down = omega (arith, some)
 
@@ -68,9 +56,6 @@ module _ (bases : List ℕ) (m k : ℕ) where
 
     inside : (i - 1) < m
     inside = omega (arith, carried.inside, length-take-le m bases (omega (arith, t.begun.few, t.begun.bases_long)))
-
-    pub turned_place : (i - 1) < 16
-    turned_place = omega (arith, inside, t.begun.few)
 
     pub turned_below : get_or todo (i - 1) 0 < 65535
     turned_below = omega (arith, t.begun.low (i - 1) inside, carry_below (take m bases) (take m were) t.begun.fits (i - 1) (take m todo) carried, get_or-take m todo (i - 1) 0 inside, get_or-take m bases (i - 1) 0 inside)
@@ -94,7 +79,7 @@ module _ (bases : List ℕ) (m k : ℕ) where
           rest = drop-set-lt m todo (i - 1) v inside ∙ t.rest ∙ t₀.rest;
         }
 
-    pub turned_on : get_or bases (i - 1) 0 ≤ get_or todo (i - 1) 0 + 1 → Turned' bases m k were left (set todo (i - 1) 0) (i - 1)
+    pub turned_on : get_or bases (i - 1) 0 ≤ get_or todo (i - 1) 0 + 1 → Turned bases m k were left (set todo (i - 1) 0) (i - 1)
     turned_on l = record {
       begun = t.begun;
       todo_long = length-set todo (i - 1) 0 ∙ t.todo_long;
@@ -103,7 +88,7 @@ module _ (bases : List ℕ) (m k : ℕ) where
       rest = drop-set-lt m todo (i - 1) 0 inside ∙ t.rest;
     }
 
-  pub turned_spills : (were : List ℕ) (left : ℕ) (todo : List ℕ) (j : ℕ) → Turned' bases m k were left todo j → j ≡ 0 → (start : List ℕ) (l₀ : ℕ) → Turning bases m k start were l₀ → Turns bases m k start (Past left) todo
+  pub turned_spills : (were : List ℕ) (left : ℕ) (todo : List ℕ) (j : ℕ) → Turned bases m k were left todo j → j ≡ 0 → (start : List ℕ) (l₀ : ℕ) → Turning bases m k start were l₀ → Turns bases m k start (Some left) todo
   turned_spills were left todo j t e start l₀ t₀ =
       let c = subst (λ (z : ℕ). Carrying (take m bases) (take m were) z (take m todo)) e t.carry in
       record {
@@ -182,11 +167,11 @@ module _ (bases : List ℕ) (m : ℕ) (todo : List ℕ) (ok : Turnable bases m t
             ap (λ (z : ℕ). drop z to) e ∙ sym (drop-drop 1 (m - 1) to) ∙ ap (drop 1) d ∙ drop-drop 1 (m - 1) todo ∙ ap (λ (z : ℕ). drop z todo) (sym e)
 
         -- those before it show how often it went round
-        module _ (said : Turned) (made : Turns bases (m - 1) (k / last) todo said to) (told : said ≡ At) where
-          t : Turns bases (m - 1) (k / last) todo At to
+        module _ (said : Option ℕ) (made : Turns bases (m - 1) (k / last) todo said to) (told : said ≡ None) where
+          t : Turns bases (m - 1) (k / last) todo None to
           t = subst (λ z. Turns bases (m - 1) (k / last) todo z to) told made
 
-          pub show_at : Turns bases m k todo At (set to (m - 1) (k % last))
+          pub show_at : Turns bases m k todo None (set to (m - 1) (k % last))
           show_at =
               let shown : take m (set to (m - 1) (k % last)) ≡ take (m - 1) to ++ (k % last ∷ []) = ap (λ (z : ℕ). take z (set to (m - 1) (k % last))) up ∙ take-suc-set to (m - 1) (k % last) (omega (arith, show_place, t.room)) in
               record {
@@ -201,17 +186,14 @@ module _ (bases : List ℕ) (m : ℕ) (todo : List ℕ) (ok : Turnable bases m t
               }
 
         -- the first of them spilled
-        module _ (said : Turned) (made : Turns bases (m - 1) (k / last) todo said to) (rounds : ℕ) (told : said ≡ Past rounds) where
-          spilled : Turns bases (m - 1) (k / last) todo (Past rounds) to
+        module _ (said : Option ℕ) (made : Turns bases (m - 1) (k / last) todo said to) (rounds : ℕ) (told : said ≡ Some rounds) where
+          spilled : Turns bases (m - 1) (k / last) todo (Some rounds) to
           spilled = subst (λ z. Turns bases (m - 1) (k / last) todo z to) told made
 
           left_over : k ≡ product (take m bases) + (rounds * last + k % last)
           left_over = omega (arith, whole, ap (λ (z : ℕ). z * last) spilled.shows.0, add-mul (product (take (m - 1) bases)) rounds last, product_all)
 
-          pub show_fits : rounds * last + k % last ≤ k
-          show_fits = omega (arith, left_over)
-
-          pub show_past : Turns bases m k todo (Past (rounds * last + k % last)) to
+          pub show_past : Turns bases m k todo (Some (rounds * last + k % last)) to
           show_past = record {
             room = spilled.room;
             shows = (

@@ -1,8 +1,6 @@
 -- Turning the places of a production.
-use Rattle.std.specs.Prelude.{List, ◌≡◌, ℕ, ◌+◌, ◌≤◌, ◌<◌, length, take, drop, get_or}
+use Rattle.std.specs.Prelude.{Option, None, Some, List, ◌≡◌, ℕ, ◌+◌, ◌≤◌, ◌<◌, length, take, drop, get_or}
 use Rattle.theory.specs.Odometer.{product, Fits, zeros, turns}
-use Rattle.odometer.specs.declared.inner.Turned.{Turned}
-use Rattle.odometer.specs.declared.inner.Turned.TheVariants.{At, Past}
 
 -- what turning asks: at most 16 places, each with 1 to 65535 choices, all at 0
 pub record Turnable (bases : List ℕ) (m : ℕ) (todo : List ℕ) : Type 0 where
@@ -14,12 +12,12 @@ pub record Turnable (bases : List ℕ) (m : ℕ) (todo : List ℕ) : Type 0 wher
   pub begun : take m todo ≡ zeros (take m bases)
 
 -- the places show choice k; or there are fewer, and so many are left over
-abbrev pub Shows : (bs : List ℕ) (k : ℕ) (ds : List ℕ) → Turned → Type 0
-Shows bs k ds At = Fits bs ds × (turns bs ds ≡ k)
-Shows bs k ds (Past left) = (k ≡ product bs + left) × (ds ≡ zeros bs)
+abbrev pub Shows : (bs : List ℕ) (k : ℕ) (ds : List ℕ) → Option ℕ → Type 0
+Shows bs k ds None = Fits bs ds × (turns bs ds ≡ k)
+Shows bs k ds (Some left) = (k ≡ product bs + left) × (ds ≡ zeros bs)
 
 -- what turning leaves: the first m places show it, and the others are as they were
-pub record Turns (bases : List ℕ) (m k : ℕ) (todo : List ℕ) (said : Turned) (to : List ℕ) : Type 0 where
+pub record Turns (bases : List ℕ) (m k : ℕ) (todo : List ℕ) (said : Option ℕ) (to : List ℕ) : Type 0 where
   pub room : length to ≡ 16
   pub shows : Shows (take m bases) k (take m to) said
   pub rest : drop m to ≡ drop m todo

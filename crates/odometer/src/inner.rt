@@ -1,44 +1,29 @@
 // The odometer over the choices of a production: the last place turns fastest.
 ghost use Rattle.odometer.specs.Turning.{Turnable, Turns};
 
-// How turning ended: the choice is shown, or the first place spilled and so many turns are left.
-#[derive(Clone, Copy)]
-pub enum Turned {
-    At,
-    Past(u32),
-}
-
-// Turns the first m places k times from all 0, the last place fastest.
-fn turn(bases: &[u32; 16], m: usize, k: u32, todo: &mut [u32; 16]) -> Turned
+// Turns the first m places k times from all 0, the last place fastest. None where the choice is shown; else how many
+// turns are left where the first place spilled.
+fn turn(bases: &[u32; 16], m: usize, k: u32, todo: &mut [u32; 16]) -> Option<u32>
     requires { Turnable bases.now m todo.old }
     ensures { Turns bases.now m k todo.old result todo.new }
 {
-    let mut left = k;
-    'turns: loop {
-        if left == 0 {
-            return Turned::At;
-        }
-        left -= 1;
-        let mut j = m;
-        loop {
-            if j == 0 {
-                break 'turns;
-            }
-            j -= 1;
+    'turns: for left in (0..k).rev() {
+        for j in (0..m).rev() {
             let d = todo[j];
             if d + 1 < bases[j] {
                 todo[j] = d + 1;
-                break;
+                continue 'turns;
             }
             todo[j] = 0;
         }
+        return Some(left);
     }
-    Turned::Past(left)
+    None
 }
 
 // The same, with the last place set at once: it takes k by its base, and those before it turn once for each whole round
 // of it.
-pub fn show(bases: &[u32; 16], m: usize, k: u32, todo: &mut [u32; 16]) -> Turned
+pub fn show(bases: &[u32; 16], m: usize, k: u32, todo: &mut [u32; 16]) -> Option<u32>
     requires { Turnable bases.now m todo.old }
     ensures { Turns bases.now m k todo.old result todo.new }
 {
@@ -46,10 +31,9 @@ pub fn show(bases: &[u32; 16], m: usize, k: u32, todo: &mut [u32; 16]) -> Turned
         return turn(bases, m, k, todo);
     }
     let last = bases[m - 1];
-    let t = turn(bases, m - 1, k / last, todo);
-    let Turned::Past(rounds) = t else {
+    let Some(rounds) = turn(bases, m - 1, k / last, todo) else {
         todo[m - 1] = k % last;
-        return Turned::At;
+        return None;
     };
-    Turned::Past(rounds * last + k % last)
+    Some(rounds * last + k % last)
 }

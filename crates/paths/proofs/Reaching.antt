@@ -1,25 +1,23 @@
 -- The reached rules: rule 0 and what a search from it has seen, in the words of a lent row.
+use Rattle.grammar.specs.Outcome.{Outcome}
+use Rattle.grammar.specs.Outcome.{answers}
 use mathlib.Core.Bool.{Bool, true, false, ◌||◌}
 use mathlib.Core.List.{List}
 use mathlib.Core.Logic.{inl, inr}
 use mathlib.Core.Path.{◌≡◌, refl, sym, ◌∙◌, ap, subst}
-use Prim.Native.Nat.{ℕ, ◌+◌, ◌*◌, ◌/◌, ◌%◌, ◌≤◌, ◌<◌}
+use Prim.Native.Nat.{ℕ, ◌*◌, ◌/◌, ◌%◌, ◌≤◌, ◌<◌}
 use native.Mathlib.Decide.{dec_lt}
 use native.Mathlib.Omega.{arith}
 use lib.Dec.{eqb}
-use lib.ListN.{length, get_or, set, replicate, length-set, get_or-eq_default}
-use lib.Seq.{get_or-set_same, get_or-set_other}
+use lib.ListN.{length, get_or, replicate, get_or-eq_default}
 use borrow.Author.Tests.{eqb-true}
 use Rattle.theory.specs.Search.{Reach}
 use Rattle.theory.proofs.Bools.{or_split, or_left, or_right, eqb_same}
 use Rattle.theory.proofs.Paths.{Uses}
 use Rattle.theory.proofs.Reached.{reached_reach}
 use Rattle.theory.proofs.Search.{chain_map}
-use Rattle.grammar.specs.Flat.{Flat, at, flat, denoted}
-use Rattle.grammar.specs.Production.{checked_is}
+use Rattle.grammar.specs.Flat.{Flat, flat, denoted}
 use Rattle.grammar.specs.Well.{WellFormed}
-use Rattle.grammar.specs.declared.Checked.{Checked}
-use Rattle.grammar.specs.declared.Checked.TheVariants.{Well}
 use Rattle.rows.specs.Marks.{bit, place, mark, marked}
 use Rattle.rows.specs.Tables.{Sized, row_view}
 use Rattle.rows.proofs.Row.{row_mark, row_inside}
@@ -31,30 +29,6 @@ use Rattle.paths.specs.Search.{Searchable, Finds}
 use Rattle.paths.specs.Reached.{ReachedDefined, Fillable, Copied}
 use Rattle.paths.proofs.Going.{row_marked, marked_held}
 use Rattle.paths.proofs.Steps.{chain_in, holds_uses, uses_holds}
-
--- `copy`: the words before i are those of `seen`
-pub record Copying (seen row₀ row : List ℕ) (i : ℕ) : Type 0 where
-  pub high : i ≤ length row₀
-  pub long : length row ≡ length row₀
-  pub same : (k : ℕ) → k < i → at row k ≡ at seen k
-
-module _ (seen row₀ : List ℕ) where
-  pub copy_start : Copying seen row₀ row₀ 0
-  copy_start = record { high = omega arith; long = refl; same = λ k l. absurd (omega arith) }
-
-  module _ (row : List ℕ) (i : ℕ) (c : Copying seen row₀ row i) where
-    pub copy_on : i < length row → Copying seen row₀ (set row i (at seen i)) (i + 1)
-    copy_on lt = record {
-      high = omega (arith, c.long);
-      long = length-set row i (at seen i) ∙ c.long;
-      same = λ k l. elim (dec_lt k i) [
-        | yes b ↦ get_or-set_other row i k (at seen i) 0 (λ d. omega arith) ∙ c.same k b
-        | no b ↦ let d : k ≡ i = omega arith in subst (λ z. at (set row i (at seen i)) z ≡ at seen z) (sym d) (get_or-set_same row i (at seen i) 0 lt)
-      ];
-    }
-
-    pub copy_end : length row ≤ i → Copied seen row₀ row
-    copy_end le = record { long = c.long; same = λ k l. c.same k (omega (arith, c.long)) }
 
 -- the words of a row that are those of `seen` hold its marks
 module _ (R : ℕ) (seen row₀ to : List ℕ) (len : length row₀ ≡ words R) (c : Copied seen row₀ to) where
@@ -148,5 +122,5 @@ module _ (rules : ℕ) (owners starts symbols costs : List ℕ) (ws : List ℕ) 
   reach_defined found seen f all is to c = copied_defined (flat rules owners starts symbols costs) ok.well found seen f all is ws to ok.long c
 
 -- `fill_reached`
-pub reached_fillable : (g : Flat) (ws : List ℕ) (c : Checked) → RowDue g (length ws) (checked_is c) → c ≡ Well → Fillable g ws
+pub reached_fillable : (g : Flat) (ws : List ℕ) (c : Outcome (Unit {0})) → RowDue g (length ws) c → c ≡ answers tt → Fillable g ws
 reached_fillable g ws c is e = let k = one_entered row_wrong g ws c is e in record { well = k.0; long = row_long g.rules ws k.1 }

@@ -1,4 +1,7 @@
 -- The source's `has_path` returns for a grammar that the crate can build and two of its rules, and its answer is ours.
+use Rattle.grammar.specs.declared.refusal.Refusal.{Refusal}
+use Rattle.std.specs.Prelude.{Result}
+use Rattle.grammar.specs.Lent.{outcome_of}
 use mathlib.Core.Bool.{Bool}
 use mathlib.Core.Path.{◌≡◌, ◌∙◌, ap}
 use Prim.Native.Nat.{ℕ, ◌<◌}
@@ -13,8 +16,6 @@ use Rattle.grammar.specs.Well.{Built}
 use Rattle.grammar.proofs.Denoted.{proper}
 use Rattle.grammar.proofs.Lowest.{due_none, answers_none}
 use Rattle.grammar.proofs.Well.{formed}
-use Rattle.tables.specs.declared.Asked.{Asked}
-use Rattle.tables.specs.Answers.{asked_is}
 use Rattle.paths.specs.Calls.{path_due, HasPath}
 
 module _ (g : Flat) (built : Built g) (a b : ℕ) (la : a < g.rules) where
@@ -25,7 +26,7 @@ module _ (g : Flat) (built : Built g) (a b : ℕ) (la : a < g.rules) where
     not_due : path_due g a b ≡ answers tt
     not_due = due_none g _ (answers_none g (formed g built.well)) ∙ rw (lt-leb g.rules a la, lt-leb g.rules b lb)
 
-    pub source_equal : (r : Asked) → HasPath g a b r → {x : Bool} → Returns (denoted g) b (start a) x → asked_is r ≡ answers x
+    pub source_equal : (r : Result Bool Refusal) → HasPath g a b r → {x : Bool} → Returns (denoted g) b (start a) x → outcome_of r ≡ answers x
     source_equal r h {x} s =
         let o = h.does not_due in
         let p = has_path_right (denoted g) (proper g built.well) a b la s in

@@ -1,11 +1,12 @@
 // The search below `has_path`: links of each rule's productions, then turn by turn the rules that it comes to.
+ghost use Rattle.grammar.specs.Lent.{flat_of};
 ghost use Rattle.std.specs.Prelude.{◌≤◌, length};
-ghost use Rattle.grammar.specs.Flat.{flat};
 ghost use Rattle.paths.specs.Lists.{work, Is, Among, Holds, Goes};
 ghost use Rattle.paths.specs.Search.{Markable, Walkable, Ready, Begun, Findable, Searchable, Finds};
 ghost use Rattle.paths.specs.Reached.{Copied, Fillable, ReachedDefined};
 
-use grammar::inner::{links, start_at, wide};
+use grammar::Grammar;
+use grammar::inner::{links, start_at};
 
 // One symbol: a rule that is not seen is seen from now on and enters the list, which holds n. The number
 // modulo 512 is a rule's; a token's is looked up too, so that tokens and rules seen are passed by one test.
@@ -13,7 +14,7 @@ fn symbol(s: u16, n: usize, list: &mut [u16], seen: &mut [u32; 16]) -> usize
     requires { Markable s (work n list.old seen.old) }
     ensures { Goes (Is s) (work n list.old seen.old) (work result list.new seen.new) }
 {
-    let r = wide(s % 512);
+    let r = usize::from(s % 512);
     if (s < 32768) | rows::inner::is_set(seen, 16, 0, r) {
         return n;
     }
@@ -35,19 +36,15 @@ fn prod(
     ensures { Goes (Among symbols.now a e) (work n list.old seen.old) (work result list.new seen.new) }
 {
     let mut m = n;
-    let mut i = a;
-    while i < e {
-        m = symbol(symbols[i], m, list, seen);
-        i += 1;
+    for s in &symbols[a..e] {
+        m = symbol(*s, m, list, seen);
     }
     m
 }
 
 // The productions of rule r, by their links.
 fn rule(
-    owners: &[u16],
-    starts: &[u16],
-    symbols: &[u16],
+    g: &Grammar,
     head: &[u16],
     next: &[u16],
     r: usize,
@@ -55,16 +52,16 @@ fn rule(
     list: &mut [u16],
     seen: &mut [u32; 16],
 ) -> usize
-    requires { Ready owners.now starts.now symbols.now head.now next.now r (work n list.old seen.old) }
-    ensures { Goes (Holds owners.now starts.now symbols.now r) (work n list.old seen.old) (work result list.new seen.new) }
+    requires { Ready g.now.owners.now g.now.starts.now g.now.symbols.now head.now next.now r (work n list.old seen.old) }
+    ensures { Goes (Holds g.now.owners.now g.now.starts.now g.now.symbols.now r) (work n list.old seen.old) (work result list.new seen.new) }
 {
     let mut m = n;
-    let mut p = wide(head[r]);
-    while p < owners.len() {
-        let a = start_at(starts, p);
-        let e = start_at(starts, p + 1);
-        m = prod(symbols, a, e, m, list, seen);
-        p = wide(next[p]);
+    let mut p = usize::from(head[r]);
+    while p < g.owners.len() {
+        let a = start_at(g.starts, p);
+        let e = start_at(g.starts, p + 1);
+        m = prod(g.symbols, a, e, m, list, seen);
+        p = usize::from(next[p]);
     }
     m
 }
@@ -72,9 +69,7 @@ fn rule(
 // First `from` has its turn, not seen since no step has led to it, then each rule of the list, until `to` is
 // seen or none is left.
 fn turns(
-    owners: &[u16],
-    starts: &[u16],
-    symbols: &[u16],
+    g: &Grammar,
     head: &[u16],
     next: &[u16],
     from: usize,
@@ -82,30 +77,28 @@ fn turns(
     list: &mut [u16],
     seen: &mut [u32; 16],
 ) -> bool
-    requires { Begun owners.now starts.now symbols.now head.now next.now from to (work 0 list.old seen.old) }
-    ensures { Finds owners.now starts.now symbols.now from to result seen.new }
+    requires { Begun g.now.owners.now g.now.starts.now g.now.symbols.now head.now next.now from to (work 0 list.old seen.old) }
+    ensures { Finds g.now.owners.now g.now.starts.now g.now.symbols.now from to result seen.new }
 {
     let mut r = from;
     let mut n: usize = 0;
     let mut done: usize = 0;
     loop {
-        n = rule(owners, starts, symbols, head, next, r, n, list, seen);
+        n = rule(g, head, next, r, n, list, seen);
         if rows::inner::is_set(seen, 16, 0, to) {
             return true;
         }
         if n <= done {
             return false;
         }
-        r = wide(list[done]);
+        r = usize::from(list[done]);
         done += 1;
     }
 }
 
 // Links the productions and searches, in lists that have room for the grammar.
 fn find(
-    owners: &[u16],
-    starts: &[u16],
-    symbols: &[u16],
+    g: &Grammar,
     from: usize,
     to: usize,
     head: &mut [u16],
@@ -113,32 +106,22 @@ fn find(
     list: &mut [u16],
     seen: &mut [u32; 16],
 ) -> bool
-    requires { Findable owners.now starts.now symbols.now from to head.old next.old list.old seen.old }
-    ensures { Finds owners.now starts.now symbols.now from to result seen.new }
+    requires { Findable g.now.owners.now g.now.starts.now g.now.symbols.now from to head.old next.old list.old seen.old }
+    ensures { Finds g.now.owners.now g.now.starts.now g.now.symbols.now from to result seen.new }
 {
-    links(owners, head, next);
-    turns(owners, starts, symbols, head, next, from, to, list, seen)
+    links(g.owners, head, next);
+    turns(g, head, next, from, to, list, seen)
 }
 
 // Whether a step or more lead from `from` to `to`; if not, `seen` has all rules to which they lead. A small
 // grammar has short lists: to set long ones would take longer than to search it.
-pub fn search(
-    rules: usize,
-    owners: &[u16],
-    starts: &[u16],
-    symbols: &[u16],
-    from: usize,
-    to: usize,
-    seen: &mut [u32; 16],
-) -> bool
-    requires { Searchable rules owners.now starts.now symbols.now from to seen.old }
-    ensures { Finds owners.now starts.now symbols.now from to result seen.new }
+pub fn search(g: &Grammar, from: usize, to: usize, seen: &mut [u32; 16]) -> bool
+    requires { Searchable g.now.rules g.now.owners.now g.now.starts.now g.now.symbols.now from to seen.old }
+    ensures { Finds g.now.owners.now g.now.starts.now g.now.symbols.now from to result seen.new }
 {
-    if (rules <= 64) & (owners.len() <= 64) {
+    if (g.rules <= 64) & (g.owners.len() <= 64) {
         return find(
-            owners,
-            starts,
-            symbols,
+            g,
             from,
             to,
             &mut [4096; 64],
@@ -148,9 +131,7 @@ pub fn search(
         );
     }
     find(
-        owners,
-        starts,
-        symbols,
+        g,
         from,
         to,
         &mut [4096; 512],
@@ -165,28 +146,17 @@ fn copy(seen: &[u32; 16], row: &mut [u32])
     requires { length row.old ≤ 16 }
     ensures { Copied seen.now row.old row.new }
 {
-    let mut i: usize = 0;
-    while i < row.len() {
-        row[i] = seen[i];
-        i += 1;
-    }
+    row.copy_from_slice(&seen[..row.len()]);
 }
 
 // Leaves the reached rules in a row of its length: rule 0, and those that a search from it sees. It looks for
 // rule 0 itself, which stands in no production, so that it never ends early.
-pub fn reach(
-    rules: u16,
-    owners: &[u16],
-    starts: &[u16],
-    symbols: &[u16],
-    costs: &[u8],
-    reached: &mut [u32],
-)
-    requires { Fillable (flat rules owners.now starts.now symbols.now costs.now) reached.old }
-    ensures { ReachedDefined (flat rules owners.now starts.now symbols.now costs.now) reached.new }
+pub fn reach(g: &Grammar, reached: &mut [u32])
+    requires { Fillable (flat_of g.now) reached.old }
+    ensures { ReachedDefined (flat_of g.now) reached.new }
 {
     let mut seen = [0; 16];
-    search(wide(rules), owners, starts, symbols, 0, 0, &mut seen);
+    search(g, 0, 0, &mut seen);
     rows::inner::set(&mut seen, 16, 0, 0);
     copy(&seen, reached);
 }

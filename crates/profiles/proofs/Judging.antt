@@ -19,9 +19,10 @@ use Rattle.theory.proofs.Profile.{none_passes, found_least}
 use Rattle.grammar.specs.Flat.{Flat, denoted}
 use Rattle.grammar.proofs.Denoted.{proper}
 use Rattle.engine.specs.First.{Lent as Firsts}
-use Rattle.profiles.specs.declared.Verdict.TheVariants.{Passes, Clashes}
+use Rattle.std.specs.Prelude.{None, Some}
 use Rattle.profiles.specs.Calls.{Judgeable, Clashing, Judging}
-use Rattle.profiles.specs.Rows.{Readable, Rowable, marks_in, follow_in, LowestIs, LeastShared}
+use Rattle.profiles.specs.Rows.{Readable, Rowable, marks_in, follow_in, LeastIs, LeastShared}
+use Rattle.profiles.specs.declared.inner.Low.{Low}
 
 -- a scan below n, where one number more may pass too
 scan_last : (f : ℕ → Bool) (n x : ℕ) → some (suc n) f ≡ true → x ≤ n → FirstBelow f n (ltb x n) x → FirstBelow f (suc n) true x
@@ -54,16 +55,16 @@ module _ (g : Flat) (read : Firsts) (follow : List ℕ) where
   judge_reads ok = record { well = ok.well; held = ok.first_is.held; follows = ok.follow_is.held }
 
   -- `judge`
-  module _ (ok : Judgeable g read follow) (rule lower : ℕ) (low : LowestIs g read follow 0 rule lower) (n : ℕ) (en : n ≡ g.rules) where
-    pub judge_passes : n ≤ rule → Judging g Passes
-    judge_passes le = record {
+  module _ (ok : Judgeable g read follow) where
+    pub judge_passes : LeastIs g read follow 0 None → Judging g None
+    judge_passes least = record {
       verdict = passes;
       answer = refl;
-      judged = none_passes (denoted g) (proper g ok.well) m ok.first_is.exact f ok.follow_is.exact rule (lowest_passes (denoted g) m f rule lower low (omega arith));
+      judged = none_passes (denoted g) (proper g ok.well) m ok.first_is.exact f ok.follow_is.exact g.rules (lowest_passes (denoted g) m f g.rules 0 least.lowest (omega arith));
     }
 
-    pub judge_clashes : rule < n → Clashing g read follow rule lower
-    judge_clashes lt = record { judges = ok; is_rule = omega arith; low = low }
+    pub judge_clashes : (low : Low) → LeastIs g read follow 0 (Some low) → Clashing g read follow low.rule low.lower
+    judge_clashes low least = record { judges = ok; is_rule = least.is_rule; low = least.lowest }
 
   -- `clash`
   module _ (rule lower : ℕ) (ok : Clashing g read follow rule lower) where
@@ -93,7 +94,7 @@ module _ (g : Flat) (read : Firsts) (follow : List ℕ) where
         pub token_fits : t ≤ 512
         token_fits = omega (arith, ht.upto, ok.judges.well.sizes.tokens_high)
 
-        pub clash_is : Judging g (Clashes (record { rule = record { 0 = rule }; lower = record { 0 = lower }; higher = record { 0 = q }; token = record { 0 = t } }))
+        pub clash_is : Judging g (Some (record { rule = record { 0 = rule }; lower = record { 0 = lower }; higher = record { 0 = q }; token = record { 0 = t } }))
         clash_is = record {
           verdict = clashes rule lower q t;
           answer = refl;

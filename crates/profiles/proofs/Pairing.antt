@@ -2,23 +2,19 @@
 use mathlib.Core.Bool.{Bool, false, ◌&&◌, and-false}
 use mathlib.Core.List.{List}
 use mathlib.Core.Path.{◌≡◌, ◌∙◌, ap₂}
-use Prim.Native.Nat.{ℕ, ◌+◌, ◌*◌, ◌≤◌, ◌<◌}
+use Prim.Native.Nat.{ℕ, ◌*◌, ◌≤◌}
 use native.Mathlib.Omega.{arith}
 use lib.Dec.{ltb}
 use lib.ListN.{length}
-use borrow.Author.Tests.{lt-ltb, le-ltb, eq-eqb, ne_eqb}
+use borrow.Author.Tests.{lt-ltb, eq-eqb, ne_eqb}
 use Rattle.theory.specs.Below.{some, FirstBelow}
 use Rattle.theory.specs.Clashes.{row_of, pair_of}
-use Rattle.theory.proofs.Below.{Scanned, first_same}
+use Rattle.theory.proofs.Below.{first_same}
 use Rattle.grammar.specs.Flat.{Flat, at, denoted}
 use Rattle.rows.specs.Marks.{mark, Rows}
 use Rattle.engine.specs.First.{Lent as Firsts}
 use Rattle.profiles.specs.Rows.{row_words, Rowable, marks_in, follow_in, RowIs, Pairable, LeastShared}
 use Rattle.profiles.proofs.Turning.{shared_is}
-
--- upwards from p
-pub look_start : (g : Flat) (read : Firsts) (follow : List ℕ) (p : ℕ) → Rowable g read follow p → Scanned (pair_of (denoted g) (marks_in g read) (follow_in g follow) p) (length g.owners) (p + 1)
-look_start g read follow p ok = record { below = omega (arith, ok.is_prod); none = λ k lk. rw (le-ltb p k (omega arith)) }
 
 module _ (g : Flat) (read : Firsts) (follow : List ℕ) (p : ℕ) (row : List ℕ) where
   -- with production q, above p
@@ -37,9 +33,6 @@ module _ (g : Flat) (read : Firsts) (follow : List ℕ) (p : ℕ) (row : List �
       pair_is e r h =
           rw (lt-ltb p q ok.rises, eq-eqb (at g.owners q) (at g.owners p) e)
           (h ∙ shared_is g read follow p row other 0 (row_of (denoted g) (marks_in g read) (follow_in g follow) q) ok.reads.well.sizes.tokens_high ok.is (λ t lt. ro.marks 0 t (omega arith) lt))
-
-  pub look_at : Rowable g read follow p → RowIs g read follow p row → (q : ℕ) → p < q → q < length g.owners → Pairable g read follow p row q
-  look_at ok ro q rises is_prod = record { reads = ok.reads; is = ro; rises = rises; is_prod = is_prod }
 
   -- the least token that both may start with
   pub shared_least : (q : ℕ) (other : List ℕ) (t : ℕ) → Rowable g read follow p → RowIs g read follow p row → RowIs g read follow q other → t ≤ length g.costs

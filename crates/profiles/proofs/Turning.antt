@@ -20,7 +20,9 @@ use Rattle.grammar.specs.Flat.{Flat, at, denoted}
 use Rattle.rows.specs.Marks.{mark, Raised, Rows}
 use Rattle.rows.proofs.Tables.{cleared_mark, cleared_row}
 use Rattle.engine.specs.First.{Lent as Firsts}
-use Rattle.profiles.specs.Rows.{row_words, Readable, marks_in, follow_in, RowIs, AboveIs, LowestIs, Turnable, Turns}
+use Rattle.profiles.specs.Rows.{row_words, Readable, marks_in, follow_in, RowIs, AboveIs, rule_in, lower_in, Turnable, Turns}
+use Rattle.profiles.specs.declared.inner.Low.{Low}
+use Rattle.std.specs.Prelude.{Option, None, Some, IsTrue, MatchOption}
 
 -- marks that a production's row shares with those of a table h
 pub shared_is : (g : Flat) (read : Firsts) (follow : List ℕ) (p : ℕ) (row ws : List ℕ) (o : ℕ) (h : ℕ → Bool) → length g.costs ≤ 512 → RowIs g read follow p row → ((t : ℕ) → t < row_words * 32 → mark row_words ws o t ≡ h t)
@@ -30,7 +32,7 @@ shared_is g read follow p row ws o h few ro other =
     (λ t lt. ap₂ ◌&&◌ (ro.marks 0 t (omega arith) (omega arith)) (other t (omega arith)))
     (λ t le lt. ap (λ b. b && mark row_words ws o t) (ro.marks 0 t (omega arith) lt ∙ row_past (denoted g) (marks_in g read) (follow_in g follow) p t le))
 
-module _ (g : Flat) (read : Firsts) (follow : List ℕ) (p rule lower : ℕ) (above : List ℕ) (ok : Turnable g read follow p rule lower above) (o : ℕ) (eo : o ≡ at g.owners p) (row : List ℕ) (ro : RowIs g read follow p row) where
+module _ (g : Flat) (read : Firsts) (follow : List ℕ) (p : ℕ) (low : Option Low) (above : List ℕ) (ok : Turnable g read follow p low above) (o : ℕ) (eo : o ≡ at g.owners p) (row : List ℕ) (ro : RowIs g read follow p row) where
   abbrev m : Marks
   m = marks_in g read
 
@@ -74,40 +76,42 @@ module _ (g : Flat) (read : Firsts) (follow : List ℕ) (p rule lower : ℕ) (ab
             ∙ sym (above_more (denoted g) m f p r t ok.rows.is_prod);
       }
 
-      pub turns_this : (hit && leb o rule) ≡ true → Turns g read follow p o p to
-      turns_this k =
-          let s = and_split hit _ k in
-          record {
-            stands = stands;
-            low = rw eo (lowest_this (denoted g) m f p rule lower ok.low ok.rows.is_prod (sym hit_low ∙ s.0) (subst (λ z. z ≤ rule) eo (leb-true o rule s.1)));
-          }
+      -- `least`: no rule that is less has one
+      least_is : (x : Option Low) (b : Bool) {P : Low → Type 0} → MatchOption x (IsTrue b) P → ((l : Low) → P l → b ≡ leb o l.rule) → b ≡ leb o (rule_in g.rules x)
+      least_is None b e means = e ∙ sym (le-leb o g.rules (omega (arith, is_rule_law)))
+      least_is (Some l) b e means = means l e
 
-      pub turns_same : (hit && leb o rule) ≡ false → Turns g read follow p rule lower to
-      turns_same k = record {
-        stands = stands;
-        low = lowest_same (denoted g) m f p rule lower ok.low (λ e le. true≢false (sym (and_join (hit_low ∙ e) (le-leb o rule (subst (λ z. z ≤ rule) (sym eo) le))) ∙ k));
-      }
+      module _ (least : Bool) {P : Low → Type 0} (told : MatchOption low (IsTrue least) P) (means : (l : Low) → P l → least ≡ leb o l.rule) where
+        el : least ≡ leb o (rule_in g.rules low)
+        el = least_is low least told means
+
+        pub turns_this : (hit && least) ≡ true → Turns g read follow p (Some (record { rule = o; lower = p })) to
+        turns_this k =
+            let s = and_split hit _ k in
+            record {
+              stands = stands;
+              least = record {
+                lowest = rw eo (lowest_this (denoted g) m f p (rule_in g.rules low) (lower_in low) ok.least.lowest ok.rows.is_prod (sym hit_low ∙ s.0) (subst (λ z. z ≤ rule_in g.rules low) eo (leb-true o (rule_in g.rules low) (sym el ∙ s.1))));
+                is_rule = is_rule_law;
+              };
+            }
+
+        pub turns_same : (hit && least) ≡ false → Turns g read follow p low to
+        turns_same k = record {
+          stands = stands;
+          least = record {
+            lowest = lowest_same (denoted g) m f p (rule_in g.rules low) (lower_in low) ok.least.lowest (λ e le. true≢false (sym (and_join (hit_low ∙ e) (el ∙ le-leb o (rule_in g.rules low) (subst (λ z. z ≤ rule_in g.rules low) (sym eo) le))) ∙ k));
+            is_rule = ok.least.is_rule;
+          };
+        }
 
 -- before the first turn
-module _ (g : Flat) (read : Firsts) (follow : List ℕ) (ok : Readable g read follow) where
-  pub turns_none : (rule : ℕ) → rule ≡ g.rules → Turns g read follow (length g.owners) rule 0 (replicate 8704 0)
-  turns_none rule e = record {
-    stands = record {
-      room = omega (arith, (cleared_row 8704).len, ok.well.sizes.rules_high);
-      small = (cleared_row 8704).small;
-      marks = λ r t lr lt. cleared_mark row_words 8704 r t ∙ sym (above_none (denoted g) (marks_in g read) (follow_in g follow) r t);
-    };
-    low = rw e (lowest_none (denoted g) (marks_in g read) (follow_in g follow));
-  }
-
-  -- and before each
-  pub turnable : (i p rule lower : ℕ) (above : List ℕ) → i ≤ length g.owners → i ≡ suc p → Turns g read follow i rule lower above → Turnable g read follow p rule lower above
-  turnable i p rule lower above le e t = record {
-    rows = record { reads = ok; is_prod = omega arith };
-    stands = rw e at t.stands;
-    low = rw e at t.low;
-  }
-
-  -- and after the last
-  pub turns_all : (i rule lower : ℕ) (above : List ℕ) → i ≤ 0 → Turns g read follow i rule lower above → LowestIs g read follow 0 rule lower
-  turns_all i rule lower above le t = subst (λ z. LowestIs g read follow z rule lower) (let e : i ≡ 0 = omega arith in e) t.low
+pub turns_none : (g : Flat) (read : Firsts) (follow : List ℕ) → Readable g read follow → Turns g read follow (length g.owners) None (replicate 8704 0)
+turns_none g read follow ok = record {
+  stands = record {
+    room = omega (arith, (cleared_row 8704).len, ok.well.sizes.rules_high);
+    small = (cleared_row 8704).small;
+    marks = λ r t lr lt. cleared_mark row_words 8704 r t ∙ sym (above_none (denoted g) (marks_in g read) (follow_in g follow) r t);
+  };
+  least = record { lowest = lowest_none (denoted g) (marks_in g read) (follow_in g follow); is_rule = tt };
+}

@@ -1,7 +1,9 @@
 -- The public call: the verdict, with its refusals in order.
-use Rattle.std.specs.Prelude.{List, ◌≡◌, ℕ, ◌<◌, length}
+use Rattle.std.specs.Prelude.{Result, Ok, Err, Option, None, Some, List, ◌≡◌, ℕ, ◌<◌, length}
 use Rattle.theory.specs.Profile.{Verdict, passes, clashes, Judged}
 use Rattle.grammar.specs.Flat.{Flat, denoted}
+use Rattle.grammar.specs.Number.{number_of}
+use Rattle.grammar.specs.declared.refusal.Refusal.{Refusal}
 use Rattle.grammar.specs.Outcome.{Outcome, answers, refused, unless}
 use Rattle.grammar.specs.Refusals.{unless_due}
 use Rattle.grammar.specs.Well.{WellFormed}
@@ -10,15 +12,18 @@ use Rattle.firsts.specs.Calls.{Defined as FirstDefined}
 use Rattle.engine.specs.First.{Lent as Firsts, lent as firsts}
 use Rattle.engine.specs.Follow.{Lent, lent, reads}
 use Rattle.follows.specs.Calls.{lent_wrong, Defined, Tables}
-use Rattle.profiles.specs.declared.Verdict.{Verdict as Answer}
-use Rattle.profiles.specs.declared.Verdict.TheVariants.{Passes, Clashes, Refused}
+use Rattle.profiles.specs.declared.Clash.{Clash}
 use Rattle.profiles.specs.Rows.{LowestIs}
 
--- the cases of the answer: it passes, or has this least clash, or the refusal
-abbrev pub verdict_is : Answer → Outcome Verdict
-verdict_is Passes = answers passes
-verdict_is (Clashes c) = answers (clashes c.rule.0 c.lower.0 c.higher.0 c.token.0)
-verdict_is (Refused n) = refused n
+-- the verdict: it passes, or has this least clash
+abbrev pub verdict_of : Option Clash → Verdict
+verdict_of None = passes
+verdict_of (Some c) = clashes c.rule.0 c.lower.0 c.higher.0 c.token.0
+
+-- what the call comes to: the verdict, or the refusal
+abbrev pub verdict_is : Result (Option Clash) Refusal → Outcome Verdict
+verdict_is (Ok r) = answers (verdict_of r)
+verdict_is (Err e) = refused (number_of e)
 
 -- 1 to 6, and 7 for any of the four tables
 abbrev pub profile_due : Flat → Lent → Outcome (Unit {0})
@@ -32,7 +37,7 @@ pub record Judges (g : Flat) (said : Outcome Verdict) (to : Lent) : Type 0 where
   pub tables : Tables g to
 
 -- the promise of `profile`
-abbrev pub Profile : Flat → (follow first empty reached : List ℕ) → Answer → (follow' first' empty' reached' : List ℕ) → Type 0
+abbrev pub Profile : Flat → (follow first empty reached : List ℕ) → Result (Option Clash) Refusal → (follow' first' empty' reached' : List ℕ) → Type 0
 Profile g follow first empty reached r follow' first' empty' reached' =
     Call (profile_due g (lent follow (reads (firsts first empty) reached))) (Judges g) (lent follow (reads (firsts first empty) reached)) (verdict_is r) (lent follow' (reads (firsts first' empty') reached'))
 
@@ -49,7 +54,7 @@ pub record Clashing (g : Flat) (read : Firsts) (follow : List ℕ) (rule lower :
   pub low : LowestIs g read follow 0 rule lower
 
 -- what it answers
-pub record Judging (g : Flat) (r : Answer) : Type 0 where
+pub record Judging (g : Flat) (r : Option Clash) : Type 0 where
   pub verdict : Verdict
-  pub answer : verdict_is r ≡ answers verdict
+  pub answer : verdict_of r ≡ verdict
   pub judged : Judged (denoted g) verdict

@@ -1,5 +1,5 @@
 -- The rows of productions as words: what the functions below the public call ask and leave.
-use Rattle.std.specs.Prelude.{Bool, List, ◌≡◌, ℕ, suc, ◌*◌, ◌≤◌, ◌<◌, ltb, length, replicate}
+use Rattle.std.specs.Prelude.{Bool, List, Option, None, Some, IfSome, ◌≡◌, ℕ, suc, ◌*◌, ◌≤◌, ◌<◌, ltb, length, replicate}
 use Rattle.theory.specs.Below.{FirstBelow}
 use Rattle.theory.specs.Clashes.{row_of, shares_of, above_of, Lowest}
 use Rattle.theory.specs.Visits.{Table, Marks}
@@ -10,6 +10,7 @@ use Rattle.rows.specs.Tables.{Sized}
 use Rattle.tables.specs.Sizes.{words}
 use Rattle.engine.specs.First.{Lent as Firsts, Held, marks_of, Walkable as Forth, Walks}
 use Rattle.engine.specs.Follow.{table_of}
+use Rattle.profiles.specs.declared.inner.Low.{Low}
 
 -- the words of a row: a mark for each of 512 tokens, and one for the place of T
 abbrev pub row_words : ℕ
@@ -61,16 +62,30 @@ AboveIs g read follow i above = Shows g.rules (above_of (denoted g) (marks_in g 
 abbrev pub LowestIs : Flat → Firsts → List ℕ → (i rule lower : ℕ) → Type 0
 LowestIs g read follow i rule lower = Lowest (denoted g) (marks_in g read) (follow_in g follow) i rule lower
 
+-- its rule and its lower production, as the code has them: rule R for None
+abbrev pub rule_in : ℕ → Option Low → ℕ
+rule_in R None = R
+rule_in R (Some low) = low.rule
+
+abbrev pub lower_in : Option Low → ℕ
+lower_in None = 0
+lower_in (Some low) = low.lower
+
+-- the least clash among them as the code has it, where the rule of one that is found is a rule
+pub record LeastIs (g : Flat) (read : Firsts) (follow : List ℕ) (i : ℕ) (low : Option Low) : Type 0 where
+  pub lowest : LowestIs g read follow i (rule_in g.rules low) (lower_in low)
+  pub is_rule : IfSome low (λ l. l.rule < g.rules)
+
 -- what production p's turn asks: the productions above it have had theirs
-pub record Turnable (g : Flat) (read : Firsts) (follow : List ℕ) (p rule lower : ℕ) (above : List ℕ) : Type 0 where
+pub record Turnable (g : Flat) (read : Firsts) (follow : List ℕ) (p : ℕ) (low : Option Low) (above : List ℕ) : Type 0 where
   pub rows : Rowable g read follow p
   pub stands : AboveIs g read follow (suc p) above
-  pub low : LowestIs g read follow (suc p) rule lower
+  pub least : LeastIs g read follow (suc p) low
 
 -- what it leaves
-pub record Turns (g : Flat) (read : Firsts) (follow : List ℕ) (p rule lower : ℕ) (above : List ℕ) : Type 0 where
+pub record Turns (g : Flat) (read : Firsts) (follow : List ℕ) (p : ℕ) (low : Option Low) (above : List ℕ) : Type 0 where
   pub stands : AboveIs g read follow p above
-  pub low : LowestIs g read follow p rule lower
+  pub least : LeastIs g read follow p low
 
 -- what it takes to hold production q, above p, to p, which has this row
 pub record Pairable (g : Flat) (read : Firsts) (follow : List ℕ) (p : ℕ) (row : List ℕ) (q : ℕ) : Type 0 where

@@ -10,218 +10,137 @@
 
 ghost use Rattle.std.specs.Prelude.{◌≤◌, length};
 
-use grammar::{PIdx, RIdx, TIdx};
+use grammar::{Grammar, PIdx, RIdx, Refusal, TIdx};
 use std::io;
 use std::io::Read;
 use tables::inner::{table_words, words_for};
-use tables::{Asked, Filled};
 
-fn say(rt: &impl Print, text: &[u8]) -> io::Result<()> {
-    rt.write_all(text)
-}
+// The limits of a grammar: R and T, P, N.
+const RULES: usize = 512;
 
-fn print(rt: &impl Print, n: u16) -> io::Result<()> {
-    rt.print(n)
-}
+const TOKENS: usize = 512;
 
-fn say_refused(rt: &impl Print, n: u16) -> io::Result<()> {
-    say(rt, b"refused ")?;
-    print(rt, n)
-}
+const PRODS: usize = 4096;
 
-fn say_filled(rt: &impl Print, f: Filled) -> io::Result<()> {
-    match f {
-        Filled::Done => Ok(()),
-        Filled::Refused(n) => say_refused(rt, n),
-    }
-}
+const SYMBOLS: usize = 16384;
+
+// The words of a row by rule and of FIRST, at the limits.
+const ROW: usize = 16;
+
+const ROWS: usize = 512 * 16;
+
+// Room for a sentence.
+const SENTENCE: usize = 1024;
 
 // The next byte, 0 at the end.
 fn byte(input: &mut impl Read) -> io::Result<u8> {
-    match input.by_ref().bytes().next() {
-        Some(b) => b,
-        None => Ok(0),
-    }
+    input.by_ref().bytes().next().unwrap_or(Ok(0))
 }
 
 // The next number: its digits, five at most, and the byte behind them.
 fn number(input: &mut impl Read) -> io::Result<u16> {
-    let mut n: u32 = 0;
-    let mut i: u32 = 0;
-    while i < 6 {
+    let mut n: u16 = 0;
+    for _ in 0..6 {
         let b = byte(input)?;
-        if b < 48 {
-            return Ok(n as u16);
+        if b < b'0' {
+            break;
         }
-        n = (n * 10 + b as u32 - 48) % 65536;
-        i += 1;
+        n = n.wrapping_mul(10).wrapping_add(u16::from(b - b'0'));
     }
-    Ok(n as u16)
-}
-
-fn at_most(n: u16, most: u16) -> usize
-    ensures { result ≤ most }
-{
-    if n < most {
-        return n as usize;
-    }
-    most as usize
+    Ok(n)
 }
 
 fn narrow(n: usize) -> u16 {
-    if n < 65536 {
-        return n as u16;
-    }
-    65535
+    u16::try_from(n).unwrap_or(u16::MAX)
 }
 
 fn read_numbers(input: &mut impl Read, list: &mut [u16]) -> io::Result<()> {
-    let mut i: usize = 0;
-    while i < list.len() {
-        list[i] = number(input)?;
-        i += 1;
+    for x in list.iter_mut() {
+        *x = number(input)?;
     }
     Ok(())
 }
 
 fn read_bytes(input: &mut impl Read, list: &mut [u8]) -> io::Result<()> {
-    let mut i: usize = 0;
-    while i < list.len() {
-        list[i] = (number(input)? % 256) as u8;
-        i += 1;
+    for x in list.iter_mut() {
+        *x = (number(input)? % 256) as u8;
     }
     Ok(())
 }
 
 // The number, if the answer is yes, with a space before it if there was one already; whether there was one.
-fn say_if(rt: &impl Print, a: Asked, gap: bool, n: u16) -> io::Result<bool> {
-    match a {
-        Asked::Yes => {
+fn say_if(rt: &impl Print, answer: Result<bool, Refusal>, gap: bool, n: u16) -> io::Result<bool> {
+    match answer {
+        Ok(true) => {
             if gap {
-                say(rt, b" ")?;
+                print!(rt; " ")?;
             }
-            print(rt, n)?;
+            print!(rt; "{n}")?;
             Ok(true)
         }
-        Asked::No => Ok(gap),
-        Asked::Refused(n) => {
-            say_refused(rt, n)?;
+        Ok(false) => Ok(gap),
+        Err(refusal) => {
+            print!(rt; "{refusal}")?;
             Ok(gap)
         }
     }
 }
 
-fn say_marks(
-    rt: &impl Print,
-    rules: u16,
-    owners: &[u16],
-    starts: &[u16],
-    symbols: &[u16],
-    costs: &[u8],
-    table: &[u32],
-    rule: u16,
-) -> io::Result<()> {
-    let tokens = narrow(costs.len());
+// The tokens that are marked for the rule.
+fn say_marks(rt: &impl Print, g: &Grammar, table: &[u32], rule: u16) -> io::Result<()> {
     let mut gap = false;
-    let mut t: u16 = 0;
-    while t < tokens {
-        let a = tables::is_set(
-            rules,
-            owners,
-            starts,
-            symbols,
-            costs,
-            table,
-            RIdx(rule),
-            TIdx(t),
-        );
-        gap = say_if(rt, a, gap, t)?;
-        t += 1;
+    for t in 0..narrow(g.costs.len()) {
+        gap = say_if(rt, tables::is_set(g, table, RIdx(rule), TIdx(t)), gap, t)?;
     }
     Ok(())
 }
 
-fn say_empty(
-    rt: &impl Print,
-    rules: u16,
-    owners: &[u16],
-    starts: &[u16],
-    symbols: &[u16],
-    costs: &[u8],
-    empty: &[u32],
-    rule: u16,
-) -> io::Result<()> {
-    match tables::is_rule_set(rules, owners, starts, symbols, costs, empty, RIdx(rule)) {
-        Asked::Yes => say(rt, b"1"),
-        Asked::No => say(rt, b"0"),
-        Asked::Refused(n) => say_refused(rt, n),
+// 1 for a rule that is marked, else 0.
+fn say_empty(rt: &impl Print, g: &Grammar, empty: &[u32], rule: u16) -> io::Result<()> {
+    match tables::is_rule_set(g, empty, RIdx(rule)) {
+        Ok(set) => print!(rt; "{}", u8::from(set)),
+        Err(refusal) => print!(rt; "{refusal}"),
     }
 }
 
 // The rules to which there is a path.
-fn say_paths(
-    rt: &impl Print,
-    rules: u16,
-    owners: &[u16],
-    starts: &[u16],
-    symbols: &[u16],
-    costs: &[u8],
-    rule: u16,
-) -> io::Result<()> {
+fn say_paths(rt: &impl Print, g: &Grammar, rule: u16) -> io::Result<()> {
     let mut gap = false;
-    let mut to: u16 = 0;
-    while to < rules {
-        let a = paths::has_path(rules, owners, starts, symbols, costs, RIdx(rule), RIdx(to));
-        gap = say_if(rt, a, gap, to)?;
-        to += 1;
+    for to in 0..g.rules {
+        gap = say_if(rt, paths::has_path(g, RIdx(rule), RIdx(to)), gap, to)?;
     }
     Ok(())
 }
 
 fn say_cost(
     rt: &impl Print,
-    rules: u16,
-    owners: &[u16],
-    starts: &[u16],
-    symbols: &[u16],
-    costs: &[u8],
+    g: &Grammar,
     rule: u16,
     asked: u16,
     cost: &mut [u32],
 ) -> io::Result<()> {
-    if (asked < 1) | (2 < asked) {
+    if !matches!(asked, 1..=2) {
         return Ok(());
     }
-    match costs::min_sentence_cost(rules, owners, starts, symbols, costs, RIdx(rule), cost) {
-        costs::Cost::Is(n) => rt.print(n),
-        costs::Cost::Refused(n) => say_refused(rt, n),
+    match costs::min_sentence_cost(g, RIdx(rule), cost) {
+        Ok(least) => print!(rt; "{least}"),
+        Err(refusal) => print!(rt; "{refusal}"),
     }
 }
 
 fn say_tokens(rt: &impl Print, tokens: &[u16]) -> io::Result<()> {
-    let mut i: usize = 0;
-    while i < tokens.len() {
-        say_if(rt, Asked::Yes, i > 0, tokens[i])?;
-        i += 1;
-    }
-    Ok(())
-}
-
-fn say_front(rt: &impl Print, length: u32, out: &[u16]) -> io::Result<()> {
-    let n = length as usize;
-    if n <= out.len() {
-        say_tokens(rt, &out[..n])?;
+    for (i, t) in tokens.iter().enumerate() {
+        if i > 0 {
+            print!(rt; " ")?;
+        }
+        print!(rt; "{t}")?;
     }
     Ok(())
 }
 
 fn say_sentence(
     rt: &impl Print,
-    rules: u16,
-    owners: &[u16],
-    starts: &[u16],
-    symbols: &[u16],
-    costs: &[u8],
+    g: &Grammar,
     rule: u16,
     asked: u16,
     cost: &mut [u32],
@@ -231,39 +150,16 @@ fn say_sentence(
     if asked < 2 {
         return Ok(());
     }
-    match sentences::min_sentence(
-        rules,
-        owners,
-        starts,
-        symbols,
-        costs,
-        RIdx(rule),
-        cost,
-        lengths,
-        out,
-    ) {
-        sentences::Length::Is(n) => say_front(rt, n, out),
-        sentences::Length::Refused(n) => say_refused(rt, n),
+    match sentences::min_sentence(g, RIdx(rule), cost, lengths, out) {
+        Ok(n) => say_tokens(rt, &out[..n as usize]),
+        Err(refusal) => print!(rt; "{refusal}"),
     }
-}
-
-// What is asked of the rule.
-fn asked_of(rule: u16, asked: &[u16]) -> u16 {
-    let r = rule as usize;
-    if r < asked.len() {
-        return asked[r];
-    }
-    0
 }
 
 // A rule's line: its number, EMPTY, FIRST, paths, and where they are asked for its cost and its sentence.
 fn say_rule(
     rt: &impl Print,
-    rules: u16,
-    owners: &[u16],
-    starts: &[u16],
-    symbols: &[u16],
-    costs: &[u8],
+    g: &Grammar,
     rule: u16,
     asked: u16,
     empty: &[u32],
@@ -272,91 +168,47 @@ fn say_rule(
     lengths: &mut [u32],
     out: &mut [u16],
 ) -> io::Result<()> {
-    print(rt, rule)?;
-    say(rt, b",")?;
-    say_empty(rt, rules, owners, starts, symbols, costs, empty, rule)?;
-    say(rt, b",")?;
-    say_marks(rt, rules, owners, starts, symbols, costs, first, rule)?;
-    say(rt, b",")?;
-    say_paths(rt, rules, owners, starts, symbols, costs, rule)?;
-    say(rt, b",")?;
-    say_cost(rt, rules, owners, starts, symbols, costs, rule, asked, cost)?;
-    say(rt, b",")?;
-    say_sentence(
-        rt, rules, owners, starts, symbols, costs, rule, asked, cost, lengths, out,
-    )?;
-    say(rt, b"\n")
+    print!(rt; "{rule},")?;
+    say_empty(rt, g, empty, rule)?;
+    print!(rt; ",")?;
+    say_marks(rt, g, first, rule)?;
+    print!(rt; ",")?;
+    say_paths(rt, g, rule)?;
+    print!(rt; ",")?;
+    say_cost(rt, g, rule, asked, cost)?;
+    print!(rt; ",")?;
+    say_sentence(rt, g, rule, asked, cost, lengths, out)?;
+    println!(rt)
 }
 
+// A line for each rule, with what is asked of it.
 fn say_rules(
     rt: &impl Print,
-    rules: u16,
-    owners: &[u16],
-    starts: &[u16],
-    symbols: &[u16],
-    costs: &[u8],
+    g: &Grammar,
     asked: &[u16],
     empty: &[u32],
     first: &[u32],
     cost: &mut [u32],
     lengths: &mut [u32],
 ) -> io::Result<()> {
-    let mut out: [u16; 1024] = [0; 1024];
-    let mut rule: u16 = 0;
-    while rule < rules {
-        say_rule(
-            rt,
-            rules,
-            owners,
-            starts,
-            symbols,
-            costs,
-            rule,
-            asked_of(rule, asked),
-            empty,
-            first,
-            cost,
-            lengths,
-            &mut out,
-        )?;
-        rule += 1;
+    let mut out = [0; SENTENCE];
+    for (rule, &what) in (0..g.rules).zip(asked) {
+        say_rule(rt, g, rule, what, empty, first, cost, lengths, &mut out)?;
     }
     Ok(())
 }
 
 // A production's line: its number and its symbols, as the stretch of the list that `production` lends.
-fn say_prod(
-    rt: &impl Print,
-    rules: u16,
-    owners: &[u16],
-    starts: &[u16],
-    symbols: &[u16],
-    costs: &[u8],
-    prod: u16,
-) -> io::Result<()> {
-    say(rt, b"prod ")?;
-    print(rt, prod)?;
-    say(rt, b",")?;
-    say_tokens(
-        rt,
-        grammar::production(rules, owners, starts, symbols, costs, PIdx(prod)),
-    )?;
-    say(rt, b"\n")
+fn say_prod(rt: &impl Print, g: &Grammar, prod: u16) -> io::Result<()> {
+    print!(rt; "prod {prod},")?;
+    say_tokens(rt, grammar::production(g, PIdx(prod)))?;
+    println!(rt)
 }
 
 // A line for each production.
-fn say_prods(
-    rt: &impl Print,
-    rules: u16,
-    owners: &[u16],
-    starts: &[u16],
-    symbols: &[u16],
-    costs: &[u8],
-) -> io::Result<()> {
-    let mut i: usize = 0;
-    while i < owners.len() {
-        say_prod(rt, rules, owners, starts, symbols, costs, narrow(i))?;
-        i += 1;
+fn say_prods(rt: &impl Print, g: &Grammar) -> io::Result<()> {
+    for prod in 0..narrow(g.owners.len()) {
+        say_prod(rt, g, prod)?;
     }
     Ok(())
 }
@@ -364,59 +216,34 @@ fn say_prods(
 // Fills FIRST and EMPTY, and prints a line for each rule.
 fn fill_and_say(
     rt: &impl Print,
-    rules: u16,
-    owners: &[u16],
-    starts: &[u16],
-    symbols: &[u16],
-    costs: &[u8],
+    g: &Grammar,
     asked: &[u16],
     empty: &mut [u32],
     first: &mut [u32],
     cost: &mut [u32],
     lengths: &mut [u32],
 ) -> io::Result<()> {
-    let f = firsts::fill(rules, owners, starts, symbols, costs, first, empty);
-    say_filled(rt, f)?;
-    say_rules(
-        rt, rules, owners, starts, symbols, costs, asked, empty, first, cost, lengths,
-    )
+    if let Err(refusal) = firsts::fill(g, first, empty) {
+        print!(rt; "{refusal}")?;
+    }
+    say_rules(rt, g, asked, empty, first, cost, lengths)
 }
 
-// The words of a row by rule.
-fn row_words(rules: usize) -> usize
-    requires { rules ≤ 512 }
-    ensures { result ≤ 16 }
-{
-    words_for(rules)
-}
-
-// A grammar's answers, with tables of their exact lengths.
-fn replay(
-    rt: &impl Print,
-    owners: &[u16],
-    starts: &[u16],
-    symbols: &[u16],
-    costs: &[u8],
-    asked: &[u16],
-) -> io::Result<()>
-    requires { (length asked.now ≤ 512) × (length costs.now ≤ 512) }
+// A grammar's answers, with tables of their exact lengths. Of each rule one number is asked.
+fn replay(rt: &impl Print, g: &Grammar, asked: &[u16]) -> io::Result<()>
+    requires { (length asked.now ≤ 512) × (length g.now.costs.now ≤ 512) }
 {
     let n = asked.len();
-    let w = row_words(n);
-    let k = table_words(n, costs.len());
-    let mut empty = [0; 16];
-    let mut first = [0; 8192];
-    let mut cost = [0; 512];
-    let mut lengths = [0; 512];
-    let r = narrow(n);
-    say_prods(rt, r, owners, starts, symbols, costs)?;
+    let w = words_for(n);
+    let k = table_words(n, g.costs.len());
+    let mut empty = [0; ROW];
+    let mut first = [0; ROWS];
+    let mut cost = [0; RULES];
+    let mut lengths = [0; RULES];
+    say_prods(rt, g)?;
     fill_and_say(
         rt,
-        r,
-        owners,
-        starts,
-        symbols,
-        costs,
+        g,
         asked,
         &mut empty[..w],
         &mut first[..k],
@@ -425,7 +252,7 @@ fn replay(
     )
 }
 
-// Reads a grammar into the lists and replays it.
+// Reads a grammar into the lists, and what is asked of its rules, and replays it.
 fn read_and_replay(
     rt: &impl Print,
     input: &mut impl Read,
@@ -442,32 +269,32 @@ fn read_and_replay(
     read_numbers(input, symbols)?;
     read_bytes(input, costs)?;
     read_numbers(input, asked)?;
-    replay(rt, owners, starts, symbols, costs, asked)
+    let g = Grammar {
+        rules: narrow(asked.len()),
+        owners,
+        starts,
+        symbols,
+        costs,
+    };
+    replay(rt, &g, asked)
 }
 
-fn one_more(n: usize) -> usize
-    requires { n ≤ 4096 }
-    ensures { result ≤ 4097 }
-{
-    n + 1
-}
-
+// The next grammar, in lists of the lengths that it gives, at the limits at most.
 fn next(rt: &impl Print, input: &mut impl Read) -> io::Result<()> {
-    let r = at_most(number(input)?, 512);
-    let t = at_most(number(input)?, 512);
-    let p = at_most(number(input)?, 4096);
-    let e = one_more(p);
-    let n = at_most(number(input)?, 16384);
-    let mut owners: [u16; 4096] = [0; 4096];
-    let mut starts: [u16; 4097] = [0; 4097];
-    let mut symbols: [u16; 16384] = [0; 16384];
-    let mut costs: [u8; 512] = [0; 512];
-    let mut asked: [u16; 512] = [0; 512];
+    let r = usize::from(number(input)?).min(RULES);
+    let t = usize::from(number(input)?).min(TOKENS);
+    let p = usize::from(number(input)?).min(PRODS);
+    let n = usize::from(number(input)?).min(SYMBOLS);
+    let mut owners = [0; PRODS];
+    let mut starts = [0; PRODS + 1];
+    let mut symbols = [0; SYMBOLS];
+    let mut costs = [0; TOKENS];
+    let mut asked = [0; RULES];
     read_and_replay(
         rt,
         input,
         &mut owners[..p],
-        &mut starts[..e],
+        &mut starts[..p + 1],
         &mut symbols[..n],
         &mut costs[..t],
         &mut asked[..r],
@@ -475,13 +302,11 @@ fn next(rt: &impl Print, input: &mut impl Read) -> io::Result<()> {
 }
 
 fn main(rt: HostRuntime) -> io::Result<()> {
-    say(&rt, b"rule,empty,first,paths,cost,sentence\n")?;
+    println!(rt; "rule,empty,first,paths,cost,sentence")?;
     let mut input = rt.reader();
     let grammars = number(&mut input)?;
-    let mut i: u16 = 0;
-    while i < grammars {
+    for _ in 0..grammars {
         next(&rt, &mut input)?;
-        i += 1;
     }
     Ok(())
 }

@@ -1,4 +1,7 @@
 -- What is appended to the report: a line that a call wrote, and the lines of the rules.
+use Rattle.grammar.specs.declared.refusal.Refusal.{Refusal}
+use Rattle.std.specs.Prelude.{Result, Ok, Err}
+use Rattle.grammar.specs.Lent.{outcome_of}
 use mathlib.Core.List.{List, [], ◌++◌}
 use mathlib.Core.Path.{◌≡◌, refl, sym, ap, ◌∙◌, subst}
 use Prim.Native.Nat.{ℕ, ◌+◌, ◌*◌, ◌^◌, ◌≤◌, ◌<◌}
@@ -14,12 +17,9 @@ use Rattle.grammar.proofs.Outcomes.{not_both, answers_one}
 use Rattle.tables.specs.Append.{Appended, Writes}
 use Rattle.tables.specs.Call.{Call}
 use Rattle.tables.proofs.Appending.{appended_none, appended_long, appended_then, writes}
-use Rattle.tables.specs.declared.Written.{Written}
-use Rattle.tables.specs.declared.Written.TheVariants.{Bytes, Refused}
 use Rattle.lines.specs.Append.{Room}
 use Rattle.lines.specs.Line.{line_of, heading_of, refused_of}
 use Rattle.lines.specs.Lent.{Tables, out_wrong, entry_of}
-use Rattle.tables.specs.Answers.{written_is}
 use Rattle.lines.specs.Calls.{out_due, Heading, RefusedLine, Line}
 use Rattle.lines.specs.Report.{none, more, GrammarReport}
 use Rattle.lines.proofs.Length.{line_short, refused_long}
@@ -28,10 +28,10 @@ use Rattle.lines.proofs.Saying.{line_says}
 use Rattle.report.specs.Steps.{line_room, report_room, line_in, Stands, Ready, LineAdded, LinesAdded}
 
 -- `append`
-pub append_none : (w : Written) (line out : List ℕ) (at n : ℕ) → w ≡ Refused n → Appended out at (line_in w line) out at
+pub append_none : (w : Result ℕ Refusal) (line out : List ℕ) (at : ℕ) (e : Refusal) → w ≡ Err e → Appended out at (line_in w line) out at
 append_none w line out at n e = rw e (appended_none out at)
 
-module _ (w : Written) (line : List ℕ) (n : ℕ) (e : w ≡ Bytes n) (end : ℕ) (q : end ≡ n) where
+module _ (w : Result ℕ Refusal) (line : List ℕ) (n : ℕ) (e : w ≡ Ok n) (end : ℕ) (q : end ≡ n) where
   is_line : line_in w line ≡ take end line
   is_line = rw (e, q)
 
@@ -45,15 +45,15 @@ module _ (w : Written) (line : List ℕ) (n : ℕ) (e : w ≡ Bytes n) (end : �
   append_made out to at next x = subst (λ bytes. Appended out at bytes to next) (sym is_line) x
 
 -- what a call wrote stands at the front of its buffer
-line_is : (bytes buffer to : List ℕ) (w : Written) → Writes bytes buffer (written_is w) to → line_in w to ≡ bytes
-line_is bytes buffer to (Bytes n) x = ap (λ l. take n l) x.left ∙ take_at bytes (drop (length bytes) buffer) n (sym (answers_one x.counts))
-line_is bytes buffer to (Refused n) x = absurd (not_both (sym x.counts))
+line_is : (bytes buffer to : List ℕ) (w : Result ℕ Refusal) → Writes bytes buffer (outcome_of w) to → line_in w to ≡ bytes
+line_is bytes buffer to (Ok n) x = ap (λ l. take n l) x.left ∙ take_at bytes (drop (length bytes) buffer) n (sym (answers_one x.counts))
+line_is bytes buffer to (Err e) x = absurd (not_both (sym x.counts))
 
-module _ (bytes buffer to : List ℕ) (w : Written) (x : Writes bytes buffer (written_is w) to) where
+module _ (bytes buffer to : List ℕ) (w : Result ℕ Refusal) (x : Writes bytes buffer (outcome_of w) to) where
   wrote_stands : Stands w to
   wrote_stands = record {
     most = λ n e.
-        let q : n ≡ length bytes = answers_one (sym (ap written_is e) ∙ x.counts) in
+        let q : n ≡ length bytes = answers_one (sym (ap outcome_of e) ∙ x.counts) in
         omega (arith, q, ap length x.left, length-append bytes (drop (length bytes) buffer));
   }
 
@@ -69,15 +69,15 @@ module _ (bytes out to : List ℕ) (n : ℕ) (x : Appended out 0 bytes to n) (l 
   front_within = omega (arith, x.next, appended_long x)
 
   front_is : take n to ≡ bytes
-  front_is = let y = writes bytes out to n n l x refl in line_is bytes out to (Bytes n) y
+  front_is = let y = writes bytes out to n n l x refl in line_is bytes out to (Ok n) y
 
 -- `heading` and `refusal`
 out_due_law : (out : List ℕ) → length out ≡ 4096 → out_due out ≡ answers tt
 unfolding out_wrong
 out_due_law out e = rw (eq-eqb (length out) 4096 e)
 
-module _ (bytes buffer to : List ℕ) (w : Written) (l : length buffer ≡ 4096) (x : Call (out_due buffer) (Writes bytes buffer) buffer (written_is w) to) where
-  wrote : Writes bytes buffer (written_is w) to
+module _ (bytes buffer to : List ℕ) (w : Result ℕ Refusal) (l : length buffer ≡ 4096) (x : Call (out_due buffer) (Writes bytes buffer) buffer (outcome_of w) to) where
+  wrote : Writes bytes buffer (outcome_of w) to
   wrote = x.does (out_due_law buffer l)
 
   pub text_stands : Stands w to
@@ -89,7 +89,7 @@ module _ (bytes buffer to : List ℕ) (w : Written) (l : length buffer ≡ 4096)
   pub text_made : (out out' : List ℕ) (next : ℕ) → Appended out 0 (line_in w to) out' next → Appended out 0 bytes out' next
   text_made out out' next = wrote_made bytes buffer to w wrote out out' 0 next
 
-module _ (buffer to : List ℕ) (w : Written) (l : length buffer ≡ 4096) (out : List ℕ) (h : report_room ≤ length out) where
+module _ (buffer to : List ℕ) (w : Result ℕ Refusal) (l : length buffer ≡ 4096) (out : List ℕ) (h : report_room ≤ length out) where
   pub heading_room : Heading buffer w to → Room out 0 (line_in w to)
   heading_room x = text_room heading_of buffer to w l x out (omega arith)
 
@@ -108,11 +108,11 @@ module _ (buffer to : List ℕ) (w : Written) (l : length buffer ≡ 4096) (out 
       refused_is = front_is (refused_of n) out out' r (text_made (refused_of n) buffer to w l x out out' r y) refused_fits
 
 -- `rule_line`
-module _ (g : Flat) (l : Tables) (y : Ready g l) (r : ℕ) (lr : r < g.rules) (buffer to : List ℕ) (w : Written) (x : Line g r l buffer w to) (e : length buffer ≡ 4096) where
+module _ (g : Flat) (l : Tables) (y : Ready g l) (r : ℕ) (lr : r < g.rules) (buffer to : List ℕ) (w : Result ℕ Refusal) (x : Line g r l buffer w to) (e : length buffer ≡ 4096) where
   abbrev bytes : List ℕ
   bytes = line_of (entry_of g.rules (length g.costs) r l)
 
-  line_wrote : Writes bytes buffer (written_is w) to
+  line_wrote : Writes bytes buffer (outcome_of w) to
   line_wrote = x.does (line_due_law g y.well l y.defined r lr buffer e)
 
   line_fits : length bytes ≤ line_room

@@ -1,22 +1,25 @@
 -- The fills on a well-formed grammar and tables of their exact lengths: none is refused, so each leaves the defined tables.
+use Rattle.grammar.specs.declared.refusal.Refusal.{Refusal}
+use Rattle.std.specs.Prelude.{Result, Ok, Err, IsOk}
 use mathlib.Core.List.{List}
-use mathlib.Core.Path.{◌≡◌, refl, ap, ◌∙◌}
+use mathlib.Core.Path.{◌≡◌, refl, sym, ap, ◌∙◌}
 use Prim.Native.Nat.{ℕ, ◌*◌, ◌≤◌}
 use native.Mathlib.Omega.{arith}
 use lib.ListN.{length, take, replicate, length-replicate}
 use lib.Seq.{length-take-le}
 use Rattle.grammar.specs.Flat.{Flat}
 use Rattle.grammar.specs.Outcome.{Outcome, answers}
+use Rattle.grammar.specs.Lent.{outcome_of}
 use Rattle.grammar.specs.Well.{WellFormed}
-use Rattle.tables.specs.declared.Filled.{Filled}
+use Rattle.grammar.proofs.Outcomes.{not_both}
 use Rattle.tables.specs.Call.{Call, Leaves}
-use Rattle.tables.specs.Sizes.{words}
+use Rattle.tables.specs.Sizes.{words, numbers_wrong}
 use Rattle.tables.proofs.AnyOrder.{goes}
 use Rattle.tables.proofs.Asking.{table_right, row_right, numbers_right, words_most}
 use Rattle.engine.specs.First.{lent as firsts}
 use Rattle.engine.specs.Follow.{Lent, reads, lent}
 use Rattle.follows.specs.Calls.{Tables as FollowTables, fill_due}
-use Rattle.costs.specs.Calls.{Fill as FillCost}
+use Rattle.costs.specs.Calls.{Fill as FillCost, fill_due as cost_fill_due}
 use Rattle.costs.specs.Defined.{CostFillable, CostDefined}
 use Rattle.lines.specs.Lent.{tables}
 use Rattle.lines.proofs.Saying.{fills_define}
@@ -49,7 +52,12 @@ fronts_fillable g x n w k en ew ek =
 pub filled_ready : (g : Flat) → WellFormed g → (empty first follow cost : List ℕ) → SetsFull g follow first empty → CostDefined g cost → Ready g (tables empty first follow cost)
 filled_ready g x empty first follow cost f c = record { well = x; defined = fills_define g empty first follow f.reached cost f.full c }
 
--- each fill leaves its tables, whatever it answers: no refusal is due
+-- what answers is no error
+done_ok : (r : Result (Unit {0}) Refusal) → outcome_of r ≡ answers tt → IsOk r
+done_ok (Ok x) e = refl
+done_ok (Err why) e = absurd (not_both (sym e))
+
+-- each fill is done and leaves its tables: no refusal is due
 module _ (g : Flat) where
   sets_due : (follow first empty reached : List ℕ) → SetsFillable g follow first empty → length reached ≡ words g.rules → fill_due g 2 (lent follow (reads (firsts first empty) reached)) ≡ answers tt
   sets_due follow first empty reached f l =
@@ -65,9 +73,18 @@ module _ (g : Flat) where
   pub reached_long : WellFormed g → (n w : ℕ) → n ≡ g.rules → w ≡ words n → length {A = ℕ} (take w (replicate 16 0)) ≡ words g.rules
   reached_long x n w en ew = front_long w _ (replicate 16 0) (ew ∙ ap words en) (omega (arith, x.sizes.rules_high, zeros 16))
 
+  pub sets_done : (follow first empty reached : List ℕ) → SetsFillable g follow first empty → length reached ≡ words g.rules → (r : Result (Unit {0}) Refusal) {l : Lent} → Call (fill_due g 2 (lent follow (reads (firsts first empty) reached))) (Leaves (FollowTables g)) (lent follow (reads (firsts first empty) reached)) (outcome_of r) l → IsOk r
+  sets_done follow first empty reached f long r x = done_ok r (x.does (sets_due follow first empty reached f long)).done
+
   pub sets_full : (follow first empty reached : List ℕ) → SetsFillable g follow first empty → length reached ≡ words g.rules → {s : Outcome (Unit {0})} {l : Lent} → Call (fill_due g 2 (lent follow (reads (firsts first empty) reached))) (Leaves (FollowTables g)) (lent follow (reads (firsts first empty) reached)) s l
       → SetsFull g l.follow l.read.firsts.first l.read.firsts.empty
   sets_full follow first empty reached f long {l = l} x = record { reached = l.read.reached; full = (x.does (sets_due follow first empty reached f long)).left }
 
-  pub cost_full : (cost : List ℕ) → CostFillable g cost → (r : Filled) (cost' : List ℕ) → FillCost g cost r cost' → CostDefined g cost'
-  cost_full cost f r cost' x = (x.does (goes g f.well _ ∙ rw (numbers_right g.rules cost f.long))).left
+  cost_due : (cost : List ℕ) → CostFillable g cost → cost_fill_due g (numbers_wrong g.rules cost) ≡ answers tt
+  cost_due cost f = goes g f.well _ ∙ rw (numbers_right g.rules cost f.long)
+
+  pub cost_done : (cost : List ℕ) → CostFillable g cost → (r : Result (Unit {0}) Refusal) (cost' : List ℕ) → FillCost g cost r cost' → IsOk r
+  cost_done cost f r cost' x = done_ok r (x.does (cost_due cost f)).done
+
+  pub cost_full : (cost : List ℕ) → CostFillable g cost → (r : Result (Unit {0}) Refusal) (cost' : List ℕ) → FillCost g cost r cost' → CostDefined g cost'
+  cost_full cost f r cost' x = (x.does (cost_due cost f)).left

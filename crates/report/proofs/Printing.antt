@@ -1,21 +1,21 @@
 -- What is printed is the file's report.
 use mathlib.Core.List.{List}
 use mathlib.Core.Path.{◌≡◌, sym, ap, ◌∙◌, subst}
-use Prim.Native.Nat.{ℕ, ◌+◌, ◌*◌, ◌<◌}
+use Prim.Native.Nat.{ℕ, ◌*◌, ◌<◌}
 use native.Mathlib.Decide.{dec_le}
 use native.Mathlib.Omega.{arith}
 use lib.ListN.{length, take, replicate, length-replicate}
 use lib.Seq.{take_all, length-take-le}
-use Rattle.grammar.specs.Flat.{flat}
 use Rattle.grammar.specs.Outcome.{answers, refused}
-use Rattle.grammar.specs.Well.{WellFormed}
 use Rattle.grammar.proofs.Outcomes.{not_both, refused_one, answers_one}
 use Rattle.blocks.specs.declared.Counts.{Counts}
-use Rattle.blocks.specs.declared.Reading.{Reading}
-use Rattle.blocks.specs.declared.Reading.TheVariants.{Counts as Given, Refused}
+use Rattle.grammar.specs.Lent.{outcome_of}
+use Rattle.grammar.specs.declared.refusal.Refusal.{Refusal}
+use Rattle.grammar.specs.Number.{number_of}
+use Rattle.std.specs.Prelude.{Result, Ok, Err}
 use Rattle.blocks.specs.Conditions.{Long}
 use Rattle.blocks.specs.Layout.{grammar_of}
-use Rattle.blocks.specs.Reading.{Lists, lists, reading_is, read_of, Read}
+use Rattle.blocks.specs.Reading.{Lists, lists, read_of, Read}
 use Rattle.blocks.specs.Steps.{fronts}
 use Rattle.blocks.proofs.Saying.{Held, read_says, read_holds, over_refused}
 use Rattle.lines.specs.Line.{refused_of}
@@ -35,17 +35,6 @@ counts_report file bytes c e x = record {
   refuses = λ m q. absurd (not_both (sym e ∙ q));
 }
 
--- `fronts_report`
-module _ (c : Counts) (owners starts symbols costs : List ℕ) (p n t : ℕ) (ep : p ≡ c.prods) (en : n ≡ c.symbols) (et : t ≡ c.tokens) where
-  fronts_are : fronts c owners starts symbols costs ≡ flat c.rules (take p owners) (take (p + 1) starts) (take n symbols) (take t costs)
-  fronts_are = rw (ep, en, et)
-
-  pub fronts_well : WellFormed (fronts c owners starts symbols costs) → WellFormed (flat c.rules (take p owners) (take (p + 1) starts) (take n symbols) (take t costs))
-  fronts_well w = subst WellFormed fronts_are w
-
-  pub fronts_report : (bytes : List ℕ) → GrammarReport (flat c.rules (take p owners) (take (p + 1) starts) (take n symbols) (take t costs)) bytes → GrammarReport (fronts c owners starts symbols costs) bytes
-  fronts_report bytes x = subst (λ g. GrammarReport g bytes) (sym fronts_are) x
-
 -- `file_report`: the four lists are of the limits' lengths
 abbrev zeros : Lists
 zeros = lists (replicate 4096 0) (replicate 4097 0) (replicate 16384 0) (replicate 512 0)
@@ -53,17 +42,17 @@ zeros = lists (replicate 4096 0) (replicate 4097 0) (replicate 16384 0) (replica
 zeros_long : Long zeros
 zeros_long = record { owners = length-replicate {0} {A = ℕ} 4096 0; starts = length-replicate {0} {A = ℕ} 4097 0; symbols = length-replicate {0} {A = ℕ} 16384 0; costs = length-replicate {0} {A = ℕ} 512 0 }
 
-module _ (file owners starts symbols costs : List ℕ) (r : Reading) (x : Read file zeros r (lists owners starts symbols costs)) where
-  pub file_held : (c : Counts) → r ≡ Given c → Held file c owners starts symbols costs
-  file_held c e = read_holds file zeros zeros_long owners starts symbols costs r x c (ap reading_is e)
+module _ (file owners starts symbols costs : List ℕ) (r : Result Counts Refusal) (x : Read file zeros r (lists owners starts symbols costs)) where
+  pub file_held : (c : Counts) → r ≡ Ok c → Held file c owners starts symbols costs
+  file_held c e = read_holds file zeros zeros_long owners starts symbols costs r x c (ap outcome_of e)
 
-  pub file_whole : (c : Counts) → r ≡ Given c → (bytes : List ℕ) → GrammarReport (fronts c owners starts symbols costs) bytes → Reports file bytes
+  pub file_whole : (c : Counts) → r ≡ Ok c → (bytes : List ℕ) → GrammarReport (fronts c owners starts symbols costs) bytes → Reports file bytes
   file_whole c e bytes y =
-      counts_report file bytes c (sym (read_says file zeros zeros_long owners starts symbols costs r x) ∙ ap reading_is e)
+      counts_report file bytes c (sym (read_says file zeros zeros_long owners starts symbols costs r x) ∙ ap outcome_of e)
       (subst (λ g. GrammarReport g bytes) (file_held c e).holds y)
 
-  pub file_refused : (n : ℕ) → r ≡ Refused n → (bytes : List ℕ) → bytes ≡ refused_of n → Reports file bytes
-  file_refused n e bytes b = refuses_report file bytes n (sym (read_says file zeros zeros_long owners starts symbols costs r x) ∙ ap reading_is e) b
+  pub file_refused : (why : Refusal) → r ≡ Err why → (n : ℕ) → n ≡ number_of why → (bytes : List ℕ) → bytes ≡ refused_of n → Reports file bytes
+  file_refused why e n q bytes b = refuses_report file bytes (number_of why) (sym (read_says file zeros zeros_long owners starts symbols costs r x) ∙ ap outcome_of e) (b ∙ ap refused_of q)
 
 -- `main`: a report of the bytes that were read is one of the file that begins with them, since a file that is longer than the room is refused with 20 as its front is
 pub prints : (room n : ℕ) (buffer bytes : List ℕ) → 512 * 98 < room → Reports (take n buffer) bytes → Prints room (take n buffer) bytes

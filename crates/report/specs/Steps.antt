@@ -1,11 +1,11 @@
 -- What the report's steps ask and leave.
+use Rattle.grammar.specs.declared.refusal.Refusal.{Refusal}
+use Rattle.std.specs.Prelude.{Result, Ok, Err}
 use Rattle.std.specs.Prelude.{List, [], ◌≡◌, ℕ, ◌+◌, ◌*◌, ◌≤◌, length, take}
 use Rattle.grammar.specs.Flat.{Flat}
 use Rattle.grammar.specs.Well.{WellFormed}
 use Rattle.tables.specs.Append.{Appended}
 use Rattle.tables.specs.Sizes.{words}
-use Rattle.tables.specs.declared.Written.{Written}
-use Rattle.tables.specs.declared.Written.TheVariants.{Bytes, Refused}
 use Rattle.engine.specs.First.{lent as firsts}
 use Rattle.engine.specs.Follow.{reads, lent}
 use Rattle.follows.specs.Calls.{Tables as FollowTables}
@@ -13,12 +13,6 @@ use Rattle.lines.specs.Line.{Entry, line_of}
 use Rattle.lines.specs.Lent.{Tables}
 use Rattle.lines.specs.Says.{Defined, Says}
 use Rattle.lines.specs.Report.{Lines}
-use Rattle.report.specs.declared.Got.{Got}
-use Rattle.report.specs.declared.Got.TheVariants.{Bytes as Read}
-
--- no more bytes were read than there is room for
-pub record Fits (room : ℕ) (got : Got) : Type 0 where
-  pub most : (n : ℕ) → got ≡ Read n → n ≤ room
 
 -- room for the line of any rule
 abbrev pub line_room : ℕ
@@ -29,13 +23,13 @@ abbrev pub report_room : ℕ
 report_room = 29 + 512 * line_room
 
 -- the line that a call wrote to the front of a buffer; nothing if it was refused
-abbrev pub line_in : Written → List ℕ → List ℕ
-line_in (Bytes n) buffer = take n buffer
-line_in (Refused n) buffer = []
+abbrev pub line_in : Result ℕ Refusal → List ℕ → List ℕ
+line_in (Ok n) buffer = take n buffer
+line_in (Err e) buffer = []
 
 -- the buffer is at least as long as that line
-pub record Stands (written : Written) (buffer : List ℕ) : Type 0 where
-  pub most : (n : ℕ) → written ≡ Bytes n → n ≤ length buffer
+pub record Stands (written : Result ℕ Refusal) (buffer : List ℕ) : Type 0 where
+  pub most : (n : ℕ) → written ≡ Ok n → n ≤ length buffer
 
 -- a well-formed grammar, and FOLLOW, FIRST and EMPTY of their exact lengths
 pub record SetsFillable (g : Flat) (follow first empty : List ℕ) : Type 0 where

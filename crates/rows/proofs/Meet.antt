@@ -1,13 +1,15 @@
 -- Marks that two rows share, a word at a time.
 use mathlib.Core.Bool.{Bool, true, false, ◌&&◌}
 use mathlib.Core.List.{List}
-use mathlib.Core.Path.{◌≡◌, refl, sym, ◌∙◌, ap}
-use Prim.Native.Nat.{ℕ, ◌+◌, ◌*◌, ◌/◌, ◌%◌, ◌≤◌, ◌<◌}
-use native.Mathlib.Decide.{dec_lt}
+use mathlib.Core.Path.{◌≡◌, refl, sym, ◌∙◌, ap, subst}
+use Prim.Native.Nat.{ℕ, ◌+◌, ◌*◌, ◌/◌, ◌%◌, ◌<◌}
 use native.Mathlib.Omega.{arith}
 use lib.Arith.{digits_div, digits_mod}
 use lib.Bits.{bit_and, and_le_l}
-use lib.ListN.{get_or}
+use lib.ListN.{length, get_or}
+use Rattle.std.specs.Bool.{MatchBool}
+use Rattle.std.specs.List.{AllWithin, HoldsAt, range_with_len}
+use Rattle.std.proofs.lemmas.List.FromFn.{length-range_with_len, get_or-range_with_len}
 use Rattle.theory.specs.Below.{some}
 use Rattle.theory.proofs.Below.{some_at, all_none}
 use Rattle.rows.specs.Marks.{bit, mark, Small}
@@ -18,7 +20,7 @@ module _ (W : ℕ) (us : List ℕ) (a : ℕ) (ws : List ℕ) (b : ℕ) where
   abbrev both : ℕ → Bool
   both t = mark W us a t && mark W ws b t
 
-  abbrev word : ℕ → ℕ
+  abbrev pub word : ℕ → ℕ
   word i = bit_and (get_or us (a * W + i) 0) (get_or ws (b * W + i) 0)
 
   both_bits : (i t : ℕ) → t / 32 ≡ i → bit (word i) (t % 32) ≡ both t
@@ -35,25 +37,15 @@ module _ (W : ℕ) (us : List ℕ) (a : ℕ) (ws : List ℕ) (b : ℕ) where
       lit true e n = e
       lit false e n = absurd (n e)
 
--- they share none in the words below i; one word more; all
-pub record Apart (W : ℕ) (us : List ℕ) (a : ℕ) (ws : List ℕ) (b i : ℕ) : Type 0 where
-  pub below : i ≤ W
-  pub none : (t : ℕ) → t < i * 32 → both W us a ws b t ≡ false
+  pub meet_no : ((i : ℕ) → i < W → word i ≡ 0) → false ≡ some (W * 32) both
+  meet_no h = sym (all_none both (W * 32) (λ t lt. sym (both_bits (t / 32) t refl) ∙ ap (λ z. bit z (t % 32)) (h (t / 32) (omega arith)) ∙ bit_none (t % 32)))
 
-module _ (W : ℕ) (us : List ℕ) (a : ℕ) (ws : List ℕ) (b : ℕ) where
-  pub meet_start : Apart W us a ws b 0
-  meet_start = record { below = omega arith; none = λ t lt. absurd (omega arith) }
+  at : (k : ℕ) → k < W → get_or (range_with_len 0 W) k 0 ≡ k
+  at k lw = omega (arith, get_or-range_with_len 0 W k 0 lw)
 
-  pub meet_on : (i : ℕ) → Apart W us a ws b i → i < W → word W us a ws b i ≡ 0 → Apart W us a ws b (i + 1)
-  meet_on i x lw h = record {
-    below = omega arith;
-    none = λ t lt. elim (dec_lt t (i * 32)) [
-      | yes l ↦ x.none t l
-      | no l ↦
-          let v : t / 32 ≡ i = omega arith in
-          sym (both_bits W us a ws b i t v) ∙ ap (λ z. bit z (t % 32)) h ∙ bit_none (t % 32)
-    ];
-  }
-
-  pub meet_no : (i : ℕ) → Apart W us a ws b i → W ≤ i → false ≡ some (W * 32) (both W us a ws b)
-  meet_no i x le = sym (all_none (both W us a ws b) (W * 32) (λ t lt. x.none t (omega arith)))
+  -- what `any` answers over the words' numbers: some word has bits that both share, or none has
+  pub meet : Small us → (r : Bool) → MatchBool r ((k : ℕ) × (k < length (range_with_len 0 W)) × HoldsAt (λ i. word i ≡ 0 → ⊥) (range_with_len 0 W) k) (AllWithin (λ i. word i ≡ 0) (range_with_len 0 W) 0 (length (range_with_len 0 W))) → r ≡ some (W * 32) both
+  meet small true (k, l, h) =
+      let lw : k < W = omega (arith, length-range_with_len 0 W) in
+      meet_yes small k lw (subst (λ i. word i ≡ 0 → ⊥) (at k lw) (h 0))
+  meet small false h = meet_no (λ i lw. subst (λ i. word i ≡ 0) (at i lw) (h i 0 (omega arith) (omega (arith, length-range_with_len 0 W))))

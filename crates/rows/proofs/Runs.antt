@@ -3,29 +3,20 @@ use mathlib.Core.Bool.{not}
 use mathlib.Core.List.{List}
 use mathlib.Core.Path.{◌≡◌, ◌∙◌, ap, subst}
 use Prim.Native.Nat.{ℕ, ◌+◌, ◌*◌, ◌/◌, ◌%◌, ◌≤◌, ◌<◌}
-use native.Mathlib.Decide.{ℕ_discrete}
 use native.Mathlib.Omega.{arith}
 use lib.Bits.{bit_or}
 use lib.Dec.{eqb}
-use lib.ListN.{length, get_or, set}
-use lib.Seq.{get_or-set_same, get_or-set_other}
-use Rattle.rows.specs.Marks.{bit, mark, Small, Copied, JoinedWord, Joins}
+use lib.ListN.{length, get_or}
+use Rattle.rows.specs.Marks.{bit, mark, Copied, JoinedWord, Joins}
 use Rattle.rows.proofs.Join.{join_as, own_bits, join_word}
 
--- one word more is read
-pub copied_more : (ws words : List ℕ) (at n : ℕ) → n < length words → Copied n ws at words → Copied (n + 1) ws at (set words n (get_or ws (at + n) 0))
-copied_more ws words at n l h k lt = elim (ℕ_discrete k n) [
-  | yes e ↦ rw (e, get_or-set_same words n (get_or ws (at + n) 0) 0)
-  | no e ↦ rw (get_or-set_other words n k (get_or ws (at + n) 0) 0) (h k (omega arith))
-]
-
 -- the words of run i below k are joined: one more, which was read at the start
-module _ (T W a b i : ℕ) (start : List ℕ) (wide : T ≤ W * 32) (lt : i < T / 256) (words : List ℕ) (reads : Copied 8 start (a * W + i * 8) words) (small : Small start) where
+module _ (T W a b i : ℕ) (start : List ℕ) (wide : T ≤ W * 32) (lt : i < T / 256) (words : List ℕ) (reads : Copied 8 start (a * W + i * 8) words) where
   pub run_more : (k new all more : ℕ) (now to : List ℕ) → b * W + W ≤ length now → k < 8 → Joins T W a b (i * 8 * 32) new start ((i * 8 + k) * 32) all now → JoinedWord now (b * W + i * 8 + k) (get_or words k 0) more to
       → Joins T W a b (i * 8 * 32) new start ((i * 8 + (k + 1)) * 32) (bit_or all more) to
   run_more k new all more now to inside l h joined ws j =
       join_as (omega arith)
-      (join_word T W ws (mark W ws a) b wide now to inside (i * 8 + k) (get_or words k 0) all more (h ws j) (rw (reads k l) (small (a * W + i * 8 + k))) bits (omega arith)
+      (join_word T W ws (mark W ws a) b wide now to inside (i * 8 + k) (get_or words k 0) all more (h ws j) (rw (reads k l) (j.raised.small (a * W + i * 8 + k))) bits (omega arith)
       (subst (λ z. JoinedWord now z (get_or words k 0) more to) (let e : b * W + i * 8 + k ≡ b * W + (i * 8 + k) = omega arith in e) joined))
     where
       bits : (t : ℕ) → t < T → t / 32 ≡ i * 8 + k → bit (get_or words k 0) (t % 32) ≡ mark W ws a t

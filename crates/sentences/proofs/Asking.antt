@@ -10,11 +10,9 @@ use borrow.Author.Tests.{leb-false}
 use Rattle.theory.proofs.Bools.{or_none}
 use Rattle.grammar.specs.Flat.{Flat}
 use Rattle.grammar.specs.Outcome.{Outcome, answers, refused}
-use Rattle.grammar.specs.Production.{checked_is, number_of, or_due}
+use Rattle.grammar.specs.Production.{or_due}
 use Rattle.grammar.specs.Refusals.{unless_due}
 use Rattle.grammar.specs.Well.{WellFormed}
-use Rattle.grammar.specs.declared.Checked.{Checked}
-use Rattle.grammar.specs.declared.Checked.TheVariants.{Well, Refused}
 use Rattle.grammar.proofs.Entry.{NoneOf, also, none_due, unless_or}
 use Rattle.tables.specs.Call.{Call}
 use Rattle.tables.specs.Entry.{ByLength, NumbersDue}
@@ -25,20 +23,20 @@ use Rattle.engine.specs.Cost.{costs_of}
 use Rattle.sentences.specs.Query.{lends, sentence_due, Says, Sentenced}
 use Rattle.sentences.specs.Working.{Workable, Worked, Finished}
 
-module _ (g : Flat) (rule : ℕ) (cost lengths : List ℕ) (o p : Outcome (Unit {0})) (is : NumbersDue g (length cost) o) (b : Bool) (eb : ByLength (numbers_wrong g.rules) (length lengths) b) (p7 : p ≡ or_due o b 7) (d : Checked) (d9 : checked_is d ≡ or_due p (leb g.rules rule) 9) where
+module _ (g : Flat) (rule : ℕ) (cost lengths : List ℕ) (o p : Outcome (Unit {0})) (is : NumbersDue g (length cost) o) (b : Bool) (eb : ByLength (numbers_wrong g.rules) (length lengths) b) (p7 : p ≡ or_due o b 7) (d : Outcome (Unit {0})) (d9 : d ≡ or_due p (leb g.rules rule) 9) where
   abbrev wrong : Bool
   wrong = numbers_wrong g.rules cost || numbers_wrong g.rules lengths
 
-  due : (out : List ℕ) → checked_is d ≡ sentence_due g rule (lends cost lengths out)
-  due out = also g ((wrong, 7) ∷ []) p (checked_is d) (leb g.rules rule) 9 (
+  due : (out : List ℕ) → d ≡ sentence_due g rule (lends cost lengths out)
+  due out = also g ((wrong, 7) ∷ []) p d (leb g.rules rule) 9 (
       also g ((numbers_wrong g.rules cost, 7) ∷ []) o p (numbers_wrong g.rules lengths) 7 (is cost refl) (p7 ∙ ap (λ z. or_due o z 7) (eb lengths refl))
       ∙ ap (λ z. unless_due g z) (unless_or (numbers_wrong g.rules cost) (numbers_wrong g.rules lengths) 7 (answers tt))
       ) d9
 
-  pub ask_refused : (out : List ℕ) (n m : ℕ) → d ≡ Refused n → m ≡ number_of d → Call (sentence_due g rule (lends cost lengths out)) (Sentenced g rule out) (lends cost lengths out) (refused m) (lends cost lengths out)
-  ask_refused out n m e q = stops d n m e q (due out)
+  pub ask_refused : (out : List ℕ) (n : ℕ) → d ≡ refused n → Call (sentence_due g rule (lends cost lengths out)) (Sentenced g rule out) (lends cost lengths out) (refused n) (lends cost lengths out)
+  ask_refused out n e = stops d n e (due out)
 
-  module _ (e : d ≡ Well) where
+  module _ (e : d ≡ answers tt) where
     known : WellFormed g × NoneOf ((wrong, 7) ∷ (leb g.rules rule, 9) ∷ [])
     known = none_due g ((wrong, 7) ∷ (leb g.rules rule, 9) ∷ []) (enters d e (due []))
 

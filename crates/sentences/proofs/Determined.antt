@@ -1,17 +1,18 @@
 -- The promise determines the answer and every lent number: any two results that it allows are equal.
+use Rattle.grammar.proofs.Determined.{outcome_one}
+use Rattle.grammar.specs.declared.refusal.Refusal.{Refusal}
+use Rattle.std.specs.Prelude.{Result}
 use mathlib.Core.List.{List}
-use mathlib.Core.Path.{◌≡◌, refl, sym, ◌∙◌, ap, subst}
+use mathlib.Core.Path.{◌≡◌, sym, ◌∙◌, ap, subst}
 use Prim.Native.Nat.{ℕ}
 use Rattle.theory.proofs.Lengths.{lengths_one}
 use Rattle.grammar.specs.Flat.{Flat}
-use Rattle.grammar.specs.Outcome.{Outcome, answers, refused}
-use Rattle.tables.proofs.Calls.{Both, call_one, told_apart}
+use Rattle.grammar.specs.Outcome.{Outcome}
+use Rattle.tables.proofs.Calls.{Both, call_one}
 use Rattle.engine.specs.Cost.{costs_of}
 use Rattle.costs.proofs.Determined.{cost_defined_one}
-use Rattle.sentences.specs.declared.Length.{Length as Answer}
-use Rattle.sentences.specs.declared.Length.TheVariants.{Is, Refused}
 use Rattle.sentences.specs.Measuring.{LengthsDefined}
-use Rattle.sentences.specs.Query.{length_is, Lends, lends, sentence_due, Says, Sentenced, MinSentence}
+use Rattle.sentences.specs.Query.{Lends, lends, sentence_due, Says, Sentenced, MinSentence}
 use Rattle.sentences.proofs.Measuring.{lengths_words}
 use Rattle.sentences.proofs.Exactly.{fate, says_said, says_left}
 
@@ -31,30 +32,19 @@ sentenced_one g r out s t a b x y =
       left = ap (λ u. lends u a.lengths a.out) c ∙ ap (λ u. lends b.cost u a.out) l ∙ ap (lends b.cost b.lengths) o;
     }
 
-pub length_answer_one : (a b : Answer) → length_is a ≡ length_is b → a ≡ b
-length_answer_one = told_apart length_is back same
-  where
-    back : Outcome ℕ → Answer
-    back (answers n) = Is n
-    back (refused n) = Refused n
-
-    same : (a : Answer) → back (length_is a) ≡ a
-    same (Is n) = refl
-    same (Refused n) = refl
-
 -- two results of the call
-pub record SameSentence (r s : Answer) (a b : Lends) : Type 0 where
+pub record SameSentence (r s : Result ℕ Refusal) (a b : Lends) : Type 0 where
   pub answer : r ≡ s
   pub cost_words : a.cost ≡ b.cost
   pub lengths_words : a.lengths ≡ b.lengths
   pub out_words : a.out ≡ b.out
 
-pub min_sentence_one : (g : Flat) (rule : ℕ) (cost lengths out : List ℕ) {r s : Answer} {c l o c' l' o' : List ℕ}
+pub min_sentence_one : (g : Flat) (rule : ℕ) (cost lengths out : List ℕ) {r s : Result ℕ Refusal} {c l o c' l' o' : List ℕ}
     → MinSentence g rule cost lengths out r c l o → MinSentence g rule cost lengths out s c' l' o' → SameSentence r s (lends c l o) (lends c' l' o')
 min_sentence_one g rule cost lengths out {r} {s} x y =
     let o = call_one (sentenced_one g rule out) (sentence_due g rule (lends cost lengths out)) x y in
     record {
-      answer = length_answer_one r s o.said;
+      answer = outcome_one o.said;
       cost_words = ap (λ z. z.cost) o.left;
       lengths_words = ap (λ z. z.lengths) o.left;
       out_words = ap (λ z. z.out) o.left;

@@ -15,9 +15,10 @@ use Rattle.theory.proofs.Expanding.{expanded_one, expanded_short, expanded_empty
 use Rattle.grammar.specs.Flat.{Flat, at, form, denoted, price}
 use Rattle.grammar.specs.Well.{WellFormed}
 use Rattle.grammar.proofs.Denoted.{proper}
-use Rattle.grammar.proofs.Forms.{form_done, form_token, form_rule, prod_in, Placed, placed}
+use Rattle.grammar.proofs.Forms.{prod_in, Placed, placed}
 use Rattle.tables.specs.Append.{Appended}
 use Rattle.tables.proofs.Appending.{appended_long, appended_none, appended_one, appended_then, appended_before, appended_there}
+use Rattle.engine.proofs.Spans.{span, span_done, span_in, span_is, span_token, span_rule}
 use Rattle.engine.proofs.Summing.{default_same}
 use Rattle.sentences.specs.Lent.{choices_of, lengths_of}
 use Rattle.sentences.specs.Expanding.{Leads, Copyable, not_written, Stood, Remembers, Wrote, RuleReady, ProductionReady}
@@ -44,47 +45,55 @@ remembers_none g w choice out = record {
 pub remembers_more : {g : Flat} {choice begun out w to : List ℕ} {from n : ℕ} → Remembers g choice begun from out → Appended out from w to n → Remembers g choice begun n to
 remembers_more {g} {choice} {begun} {out} {w} {to} {from} {n} m x = record { room = m.room; stood = λ k r lr h l. let s = m.stood k r lr h l in record { before = omega (arith, s.before, x.next); is = appended_before x (at begun r) (at begun r + length (expanded (denoted g) (choices_of choice) k r)) s.before ∙ s.is } }
 
--- a production: w is written for the symbols from a up to i
+-- a production: w is written for the first i symbols from a on
 pub record Expanding (g : Flat) (choice : List ℕ) (levels a e at : ℕ) (old : List ℕ) (i next : ℕ) (begun out : List ℕ) : Type 0 where
-  pub low : a ≤ i
-  pub high : i ≤ e
+  pub high : a + i ≤ e
   pub w : List ℕ
   pub wrote : Appended old at w out next
-  pub whole : filled (expanded (denoted g) (choices_of choice) levels) (form g.symbols a e) ≡ w ++ filled (expanded (denoted g) (choices_of choice) levels) (form g.symbols i e)
-  pub rest : all_marked (within (denoted g) (choices_of choice) levels) (form g.symbols i e) ≡ true
+  pub whole : filled (expanded (denoted g) (choices_of choice) levels) (form g.symbols a e) ≡ w ++ filled (expanded (denoted g) (choices_of choice) levels) (form g.symbols (a + i) e)
+  pub rest : all_marked (within (denoted g) (choices_of choice) levels) (form g.symbols (a + i) e) ≡ true
   pub remembers : Remembers g choice begun next out
 
 module _ (g : Flat) (choice lengths : List ℕ) (levels a e at' : ℕ) (first old : List ℕ) (ok : ProductionReady g choice lengths levels a e at' first old) where
   abbrev f : ℕ → List ℕ
   f = expanded (denoted g) (choices_of choice) levels
 
-  pub expanding_start : Expanding g choice levels a e at' old a at' first old
-  expanding_start = record { low = omega arith; high = ok.rise; w = []; wrote = appended_none old at'; whole = refl; rest = ok.grounded; remembers = ok.remembers }
+  pub expanding_start : Expanding g choice levels a e at' old 0 at' first old
+  expanding_start =
+      let here : a ≡ a + 0 = omega arith in
+      record {
+        high = omega (arith, ok.rise);
+        w = [];
+        wrote = appended_none old at';
+        whole = ap (λ z. filled f (form g.symbols z e)) here;
+        rest = subst (λ z. all_marked (within (denoted g) (choices_of choice) levels) (form g.symbols z e) ≡ true) here ok.grounded;
+        remembers = ok.remembers;
+      }
 
   module _ (i next : ℕ) (begun out : List ℕ) (x : Expanding g choice levels a e at' old i next begun out) where
     -- the room for what is left
-    room : next + length (filled f (form g.symbols i e)) ≤ length out
-    room = omega (arith, ok.fits, ap length x.whole, length-append x.w (filled f (form g.symbols i e)), x.wrote.next, appended_long x.wrote)
+    room : next + length (filled f (form g.symbols (a + i) e)) ≤ length out
+    room = omega (arith, ok.fits, ap length x.whole, length-append x.w (filled f (form g.symbols (a + i) e)), x.wrote.next, appended_long x.wrote)
 
-    low_room : next + length (filled f (form g.symbols i e)) ≤ 65535
-    low_room = omega (arith, ok.most, ap length x.whole, length-append x.w (filled f (form g.symbols i e)), x.wrote.next)
+    low_room : next + length (filled f (form g.symbols (a + i) e)) ≤ 65535
+    low_room = omega (arith, ok.most, ap length x.whole, length-append x.w (filled f (form g.symbols (a + i) e)), x.wrote.next)
 
-    pub expanding_end : e ≤ i → Wrote g choice old at' (filled f (form g.symbols a e)) begun out next
+    pub expanding_end : length (span g.symbols a e) ≤ i → Wrote g choice old at' (filled f (form g.symbols a e)) begun out next
     expanding_end l = record {
-      appends = subst (λ z. Appended old at' z out next) (sym (x.whole ∙ rw (form_done g.symbols i e x.high l) (append-nil x.w))) x.wrote;
+      appends = subst (λ z. Appended old at' z out next) (sym (x.whole ∙ rw (span_done g.symbols a e ok.inside i x.high l) (append-nil x.w))) x.wrote;
       remembers = x.remembers;
     }
 
     pub expanding_long : length out ≡ length old
     expanding_long = appended_long x.wrote
 
-    module _ (l : i < e) (s : ℕ) (es : s ≡ at g.symbols i) where
-      pub expanding_symbol : i < length g.symbols
-      expanding_symbol = omega (arith, ok.inside)
+    module _ (l : i < length (span g.symbols a e)) (s : ℕ) (es : s ≡ at (span g.symbols a e) i) where
+      pub expanding_symbol : a + i < length g.symbols
+      expanding_symbol = omega (arith, ok.inside, span_in g.symbols a e ok.inside i l)
 
       module _ (low : s < 32768) where
-        front : form g.symbols i e ≡ tok s ∷ form g.symbols (i + 1) e
-        front = form_token g.symbols i e s es l ok.inside low
+        front : form g.symbols (a + i) e ≡ tok s ∷ form g.symbols (a + (i + 1)) e
+        front = span_token g.symbols a e ok.inside i l s es low
 
         pub expanding_place : next < length out
         expanding_place = omega (arith, room, ap (λ z. length (filled f z)) front)
@@ -94,39 +103,37 @@ module _ (g : Flat) (choice lengths : List ℕ) (levels a e at' : ℕ) (first ol
 
         pub expanding_token : Expanding g choice levels a e at' old (i + 1) (next + 1) begun (set out next s)
         expanding_token = record {
-          low = omega (arith, x.low);
-          high = omega arith;
+          high = omega (arith, span_in g.symbols a e ok.inside i l);
           w = x.w ++ (s ∷ []);
           wrote = appended_then x.wrote (appended_one out next s);
-          whole = x.whole ∙ rw front (sym (append_assoc x.w (s ∷ []) (filled f (form g.symbols (i + 1) e))));
+          whole = x.whole ∙ rw front (sym (append_assoc x.w (s ∷ []) (filled f (form g.symbols (a + (i + 1)) e))));
           rest = rw front at x.rest;
           remembers = remembers_more x.remembers (appended_one out next s);
         }
 
       module _ (high : 32768 ≤ s) (r : ℕ) (er : r ≡ s - 32768) where
-        opens : form g.symbols i e ≡ rul r ∷ form g.symbols (i + 1) e
-        opens = rw er (form_rule g.symbols i e s es l ok.inside high)
+        opens : form g.symbols (a + i) e ≡ rul r ∷ form g.symbols (a + (i + 1)) e
+        opens = rw er (span_rule g.symbols a e ok.inside i l s es high)
 
-        parts : (within (denoted g) (choices_of choice) levels r ≡ true) × (all_marked (within (denoted g) (choices_of choice) levels) (form g.symbols (i + 1) e) ≡ true)
+        parts : (within (denoted g) (choices_of choice) levels r ≡ true) × (all_marked (within (denoted g) (choices_of choice) levels) (form g.symbols (a + (i + 1)) e) ≡ true)
         parts = and_split (within (denoted g) (choices_of choice) levels r) _ (rw opens at x.rest)
 
         pub expanding_rule : RuleReady g choice lengths levels r next begun out
         expanding_rule = record {
           led = ok.led;
-          is_rule = omega (arith, (ok.led.well.symbols i expanding_symbol).rule (omega arith));
+          is_rule = omega (arith, span_is g.symbols a e ok.inside i l s es, (ok.led.well.symbols (a + i) expanding_symbol).rule (omega (arith, span_is g.symbols a e ok.inside i l s es)));
           grounded = parts.0;
-          fits = omega (arith, room, ap (λ z. length (filled f z)) opens, length-append (f r) (filled f (form g.symbols (i + 1) e)));
-          most = omega (arith, low_room, ap (λ z. length (filled f z)) opens, length-append (f r) (filled f (form g.symbols (i + 1) e)));
+          fits = omega (arith, room, ap (λ z. length (filled f z)) opens, length-append (f r) (filled f (form g.symbols (a + (i + 1)) e)));
+          most = omega (arith, low_room, ap (λ z. length (filled f z)) opens, length-append (f r) (filled f (form g.symbols (a + (i + 1)) e)));
           remembers = x.remembers;
         }
 
         pub expanding_on : (to : ℕ) (then new : List ℕ) → Wrote g choice out next (f r) then new to → Expanding g choice levels a e at' old (i + 1) to then new
         expanding_on to then new h = record {
-          low = omega (arith, x.low);
-          high = omega arith;
+          high = omega (arith, span_in g.symbols a e ok.inside i l);
           w = x.w ++ f r;
           wrote = appended_then x.wrote h.appends;
-          whole = x.whole ∙ rw opens (sym (append_assoc x.w (f r) (filled f (form g.symbols (i + 1) e))));
+          whole = x.whole ∙ rw opens (sym (append_assoc x.w (f r) (filled f (form g.symbols (a + (i + 1)) e))));
           rest = parts.1;
           remembers = h.remembers;
         }
@@ -151,17 +158,17 @@ module _ (g : Flat) (choice lengths : List ℕ) (levels r at' : ℕ) (begun out 
   rule_empty n en z = record { appends = rw (ok.led.leads.empty levels r ok.grounded (length_entry lengths r rule_length ∙ sym en ∙ z)) (appended_none out at'); remembers = ok.remembers }
 
   -- it has been written: it is copied
-  module _ (n : ℕ) (en : n ≡ at lengths r) (from : ℕ) (ef : from ≡ at begun r) (l : from < not_written) (m : ℕ) (em : m ≡ n) where
+  module _ (n : ℕ) (en : n ≡ at lengths r) (from : ℕ) (ef : from ≡ at begun r) (l : from < not_written) where
     there : Stood out from written at'
     there = subst (λ z. Stood out z written at') (sym ef) (ok.remembers.stood levels r ok.is_rule ok.grounded (omega (arith, ef)))
 
-    as_long : m ≡ length written
-    as_long = em ∙ en ∙ sym (length_entry lengths r rule_length) ∙ ok.led.leads.long levels r ok.grounded (omega (arith, ok.most))
+    as_long : n ≡ length written
+    as_long = en ∙ sym (length_entry lengths r rule_length) ∙ ok.led.leads.long levels r ok.grounded (omega (arith, ok.most))
 
-    pub rule_copyable : Copyable from m at' out
+    pub rule_copyable : Copyable from n at' out
     rule_copyable = record { before = omega (arith, there.before, as_long); fits = omega (arith, ok.fits, as_long); most = omega (arith, ok.most, as_long) }
 
-    pub rule_copied : (x : ℕ) (new : List ℕ) → Appended out at' (slice from (from + m) out) new x → Wrote g choice out at' (expanded (denoted g) (choices_of choice) levels r) begun new x
+    pub rule_copied : (x : ℕ) (new : List ℕ) → Appended out at' (slice from (from + n) out) new x → Wrote g choice out at' (expanded (denoted g) (choices_of choice) levels r) begun new x
     rule_copied x new h =
         let a : Appended out at' written new x = subst (λ z. Appended out at' z new x) (ap (λ z. slice from (from + z) out) as_long ∙ there.is) h in
         record { appends = a; remembers = remembers_more ok.remembers a }

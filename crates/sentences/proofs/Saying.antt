@@ -24,8 +24,8 @@ use Rattle.grammar.specs.Outcome.{answers, refused}
 use Rattle.grammar.proofs.Denoted.{proper}
 use Rattle.engine.specs.Cost.{costs_of}
 use Rattle.engine.proofs.Summing.{entry}
-use Rattle.costs.specs.Query.{entry_due}
-use Rattle.costs.proofs.Entry.{due_cost, due_none, due_12, due_13}
+use Rattle.costs.specs.Query.{entry_due, entry_refusal}
+use Rattle.costs.proofs.Entry.{due_cost, due_none, due_12, due_13, refusal_due, refusal_none}
 use Rattle.tables.specs.Append.{Appended}
 use Rattle.sentences.specs.Lent.{choices_of, lengths_of}
 use Rattle.sentences.specs.Expanding.{RuleReady, Wrote}
@@ -136,16 +136,16 @@ module _ (g : Flat) (r : ℕ) (cost choice lengths out : List ℕ) (ok : Finishe
           fit w y (inr h) = omega (arith, length_sentence long_it short y)
 
 -- the same from what the tests on the way answered
-module _ (g : Flat) (r : ℕ) (cost choice lengths out : List ℕ) (ok : Finished g r cost choice lengths) (least : ℕ) (el : least ≡ at cost r) (due : ℕ) (ed : due ≡ entry_due least) where
-  is_due : due ≡ entry_due (costs_of cost r)
-  is_due = ed ∙ ap entry_due (el ∙ sym (entry cost r (omega (arith, ok.is_rule, ok.worked.prices.long))))
+module _ (g : Flat) (r : ℕ) (cost choice lengths out : List ℕ) (ok : Finished g r cost choice lengths) (least : ℕ) (el : least ≡ at cost r) where
+  is_due : entry_due least ≡ entry_due (costs_of cost r)
+  is_due = ap entry_due (el ∙ sym (entry cost r (omega (arith, ok.is_rule, ok.worked.prices.long))))
 
-  pub answer_due : (due ≡ 0 → ⊥) → Says g (costs_of cost) r out (refused due) out
-  answer_due h = says_due g r cost choice lengths out ok due is_due h
+  pub answer_due : (due : ℕ) → refused due ≡ entry_refusal least → Says g (costs_of cost) r out (refused due) out
+  answer_due due h = let k = refusal_due least due h in says_due g r cost choice lengths out ok due (k.0 ∙ is_due) k.1
 
-  module _ (h : due ≡ 0) (long : ℕ) (eg : long ≡ at lengths r) where
+  module _ (h : answers tt ≡ entry_refusal least) (long : ℕ) (eg : long ≡ at lengths r) where
     cheap : costs_of cost r ≤ 65535
-    cheap = due_none (costs_of cost r) (sym is_due ∙ h)
+    cheap = due_none (costs_of cost r) (sym is_due ∙ sym (refusal_none least h))
 
     is_long : long ≡ lengths_of lengths r
     is_long = eg ∙ sym (length_entry lengths r (omega (arith, ok.is_rule, ok.worked.counts.long)))
@@ -153,13 +153,13 @@ module _ (g : Flat) (r : ℕ) (cost choice lengths out : List ℕ) (ok : Finishe
     pub answer_14 : 65536 < long → Says g (costs_of cost) r out (refused 14) out
     answer_14 k = says_14 g r cost choice lengths out ok cheap (omega (arith, is_long))
 
-    module _ (k : long ≤ 65536) (s : ℕ) (es : s ≡ long) where
-      module _ (f : (leb long 65535 && leb s (length out)) ≡ true) (n : ℕ) (en : n ≡ g.rules) where
+    module _ (k : long ≤ 65536) where
+      module _ (f : (leb long 65535 && leb long (length out)) ≡ true) (n : ℕ) (en : n ≡ g.rules) where
         short : lengths_of lengths r ≤ 65535
         short = omega (arith, leb-true long 65535 (and_split (leb long 65535) _ f).0, is_long)
 
         room : lengths_of lengths r ≤ length out
-        room = omega (arith, leb-true s (length out) (and_split (leb long 65535) _ f).1, is_long)
+        room = omega (arith, leb-true long (length out) (and_split (leb long 65535) _ f).1, is_long)
 
         pub answer_ready : RuleReady g choice lengths n r 0 (replicate 512 65535) out
         answer_ready = rw en (says_ready g r cost choice lengths out ok cheap short room)
@@ -167,10 +167,10 @@ module _ (g : Flat) (r : ℕ) (cost choice lengths out : List ℕ) (ok : Finishe
         pub answer_is : (x : ℕ) (begun to : List ℕ) → Wrote g choice out 0 (expanded (denoted g) (choices_of choice) n r) begun to x → Says g (costs_of cost) r out (answers long) to
         answer_is x begun to w = says_it g r cost choice lengths out ok cheap short room long x to is_long (rw en at w.appends)
 
-      pub answer_15 : (leb long 65535 && leb s (length out)) ≡ false → Says g (costs_of cost) r out (refused 15) out
-      answer_15 f = says_15 g r cost choice lengths out ok cheap (omega (arith, is_long)) (over (dec_le long 65535) (dec_le s (length out)))
+      pub answer_15 : (leb long 65535 && leb long (length out)) ≡ false → Says g (costs_of cost) r out (refused 15) out
+      answer_15 f = says_15 g r cost choice lengths out ok cheap (omega (arith, is_long)) (over (dec_le long 65535) (dec_le long (length out)))
         where
-          over : Dec (long ≤ 65535) → Dec (s ≤ length out) → (65535 < lengths_of lengths r) ⊎ (length out < lengths_of lengths r)
+          over : Dec (long ≤ 65535) → Dec (long ≤ length out) → (65535 < lengths_of lengths r) ⊎ (length out < lengths_of lengths r)
           over (no x) y = inl (omega (arith, is_long))
           over (yes x) (no y) = inr (omega (arith, is_long))
-          over (yes x) (yes y) = absurd (true≢false (sym (and_join (le-leb long 65535 x) (le-leb s (length out) y)) ∙ f))
+          over (yes x) (yes y) = absurd (true≢false (sym (and_join (le-leb long 65535 x) (le-leb long (length out) y)) ∙ f))

@@ -1,4 +1,7 @@
 -- Demand 2 for sentences, on every grammar that the crate can build: where the source returns, the length fits and no used production has the place that document 01 names, its result is ours.
+use Rattle.grammar.specs.declared.refusal.Refusal.{Refusal}
+use Rattle.grammar.specs.Lent.{outcome_of}
+use Rattle.std.specs.Prelude.{Result}
 use mathlib.Core.List.Memᴰ
 use mathlib.Core.List.{List, [], ◌∷◌, Memᴰ}
 use mathlib.Core.Bool.{false, false≢true}
@@ -22,8 +25,7 @@ use Rattle.grammar.specs.Well.{Built}
 use Rattle.grammar.proofs.Denoted.{proper}
 use Rattle.grammar.proofs.Well.{well}
 use Rattle.engine.specs.Cost.{costs_of}
-use Rattle.sentences.specs.declared.Length.{Length as Answer}
-use Rattle.sentences.specs.Query.{length_is, Lends, lends, sentence_due, Writes, Sentenced, MinSentence}
+use Rattle.sentences.specs.Query.{Lends, lends, sentence_due, Writes, Sentenced, MinSentence}
 
 -- b is the source's list of costs, if it asks for one; v is what its `min_sentence` returns
 pub source_equal : (g : Flat) → Built g → (r : ℕ) (out : List ℕ) {s : Outcome ℕ} {a : Lends} → Sentenced g r out s a
@@ -33,9 +35,9 @@ source_equal g w r out {a = a} x b v y h short room = x.says.is v (sentence_same
 
 -- the same of a call, whatever was lent to it
 pub call_source : (g : Flat) → Built g → (r : ℕ) (cost lengths out : List ℕ) → sentence_due g r (lends cost lengths out) ≡ answers tt
-    → (q : Answer) (cost' lengths' out' : List ℕ) → MinSentence g r cost lengths out q cost' lengths' out'
+    → (q : Result ℕ Refusal) (cost' lengths' out' : List ℕ) → MinSentence g r cost lengths out q cost' lengths' out'
     → (b : Costs) (v : List ℕ) → Returns (denoted g) (price g) b r v → NoPlace (denoted g) (price g) (costs_of cost') r
-    → length v ≤ 65535 → length v ≤ length out → Writes v out (length_is q) out'
+    → length v ≤ 65535 → length v ≤ length out → Writes v out (outcome_of q) out'
 call_source g w r cost lengths out due q cost' lengths' out' m b v y h short room = source_equal g w r out (m.does due) b v y h short room
 
 -- A: a; B: B. Rules 1 A, 2 B; token 0 a
@@ -77,6 +79,6 @@ lone_place c p (inner {q = q} {s = s} d m u) x = bare s (subst (λ z. Memᴰ (ru
 
 -- so a call with room for it writes a
 pub lone_writes : (cost lengths out : List ℕ) → sentence_due lone 1 (lends cost lengths out) ≡ answers tt → 1 ≤ length out
-    → (q : Answer) (cost' lengths' out' : List ℕ) → MinSentence lone 1 cost lengths out q cost' lengths' out' → Writes (0 ∷ []) out (length_is q) out'
+    → (q : Result ℕ Refusal) (cost' lengths' out' : List ℕ) → MinSentence lone 1 cost lengths out q cost' lengths' out' → Writes (0 ∷ []) out (outcome_of q) out'
 lone_writes cost lengths out due room q cost' lengths' out' m =
     call_source lone lone_built 1 cost lengths out due q cost' lengths' out' m (λ r. 0) (0 ∷ []) (lone_returns (λ r. 0)) (lone_place (costs_of cost')) (omega arith) room

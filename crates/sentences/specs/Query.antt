@@ -1,25 +1,20 @@
 -- The cheapest sentence: the working tables are filled, then the sentence is written, or 12 to 15 given.
-use Rattle.std.specs.Prelude.{◌||◌, List, [], ◌∷◌, ◌++◌, ◌⊎◌, ◌≡◌, ℕ, ◌≤◌, ◌<◌, leb, length, drop}
+use Rattle.grammar.specs.Lent.{outcome_of}
+use Rattle.std.specs.Prelude.{Result, ◌||◌, List, [], ◌∷◌, ◌++◌, ◌⊎◌, ◌≡◌, ℕ, ◌≤◌, ◌<◌, leb, length, drop}
 use Rattle.theory.specs.Entries.{cost_max, length_max}
 use Rattle.theory.specs.Definitions.{Sentence, cost_of, Productive, Cost}
 use Rattle.theory.specs.Grammar.{rul}
 use Rattle.theory.specs.Sentences.{Grounded, Expands}
 use Rattle.theory.specs.Visits.{Costs}
 use Rattle.grammar.specs.Flat.{Flat, denoted, price}
+use Rattle.grammar.specs.declared.refusal.Refusal.{Refusal}
 use Rattle.grammar.specs.Outcome.{Outcome, answers, refused, unless}
 use Rattle.grammar.specs.Refusals.{unless_due}
 use Rattle.tables.specs.Call.{Call}
 use Rattle.tables.specs.Sizes.{numbers_wrong}
 use Rattle.engine.specs.Cost.{costs_of}
 use Rattle.costs.specs.Defined.{CostDefined}
-use Rattle.sentences.specs.declared.Length.{Length as Answer}
-use Rattle.sentences.specs.declared.Length.TheVariants.{Is, Refused}
 use Rattle.sentences.specs.Measuring.{LengthsDefined}
-
--- the cases of the answer: the length, or the refusal
-abbrev pub length_is : Answer → Outcome ℕ
-length_is (Is n) = answers n
-length_is (Refused n) = refused n
 
 -- what is lent: the working tables (COST and one length number a rule), and the output
 pub record Lends : Type 0 where
@@ -62,5 +57,5 @@ pub record Sentenced (g : Flat) (r : ℕ) (out : List ℕ) (said : Outcome ℕ) 
   pub says : Says g (costs_of after.cost) r out said after.out
 
 -- the promise
-abbrev pub MinSentence : Flat → ℕ → (cost lengths out : List ℕ) → Answer → (cost' lengths' out' : List ℕ) → Type 0
-MinSentence g r cost lengths out a cost' lengths' out' = Call (sentence_due g r (lends cost lengths out)) (Sentenced g r out) (lends cost lengths out) (length_is a) (lends cost' lengths' out')
+abbrev pub MinSentence : Flat → ℕ → (cost lengths out : List ℕ) → Result ℕ Refusal → (cost' lengths' out' : List ℕ) → Type 0
+MinSentence g r cost lengths out a cost' lengths' out' = Call (sentence_due g r (lends cost lengths out)) (Sentenced g r out) (lends cost lengths out) (outcome_of a) (lends cost' lengths' out')

@@ -2,11 +2,11 @@
 // where the source has a stack.
 #![tactic(auto)]
 
-ghost use Rattle.grammar.specs.Flat.{flat};
+ghost use Rattle.grammar.specs.Lent.{flat_of};
 ghost use Rattle.sentences.specs.Query.{MinSentence};
 
-use grammar::inner::{number, unless, wide};
-use grammar::{Checked, RIdx};
+use grammar::inner::refuse_if;
+use grammar::{Grammar, RIdx, Refusal};
 use tables::inner::{numbers_due, numbers_wrong};
 
 pub mod inner;
@@ -20,47 +20,22 @@ pub const LENGTH_LONG: u32 = 65536;
 // Lengths: the rule is ungrounded or has no cost.
 pub const LENGTH_NONE: u32 = 65537;
 
-// What the sentence call answers.
-#[derive(Clone, Copy)]
-pub enum Length {
-    Is(u32),
-    Refused(u16),
-}
-
 // Writes the cheapest sentence of `rule` to the front of `out`; its length. Fills both tables.
 // Refusals 1 to 7, 9, and once the tables are final 12 to 15.
 pub fn min_sentence(
-    rules: u16,
-    owners: &[u16],
-    starts: &[u16],
-    symbols: &[u16],
-    costs: &[u8],
+    g: &Grammar,
     rule: RIdx,
     cost: &mut [u32],
     lengths: &mut [u32],
     out: &mut [u16],
-) -> Length
-    ensures { MinSentence (flat rules owners.now starts.now symbols.now costs.now) rule.0 cost.old lengths.old out.old result cost.new lengths.new out.new }
+) -> Result<u32, Refusal>
+    ensures { MinSentence (flat_of g.now) rule.0 cost.old lengths.old out.old result cost.new lengths.new out.new }
 {
-    let r = wide(rule.0);
-    let c = numbers_due(rules, owners, starts, symbols, costs, cost.len());
-    let d = unless(c, numbers_wrong(rules, lengths.len()), 7);
-    let e = unless(d, rules <= rule.0, 9);
-    let Checked::Well = e else {
-        return Length::Refused(number(e));
-    };
+    let r = usize::from(rule.0);
+    numbers_due(g, cost.len())?;
+    refuse_if(numbers_wrong(g.rules, lengths.len()), Refusal::Length)?;
+    refuse_if(g.rules <= rule.0, Refusal::Rule)?;
     let mut choice = [4096; 512];
-    inner::work(
-        rules,
-        owners,
-        starts,
-        symbols,
-        costs,
-        cost,
-        &mut choice,
-        lengths,
-    );
-    inner::answer(
-        rules, owners, starts, symbols, costs, r, cost, &choice, lengths, out,
-    )
+    inner::work(g, cost, &mut choice, lengths);
+    inner::answer(g, r, cost, &choice, lengths, out)
 }

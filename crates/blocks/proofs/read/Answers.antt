@@ -1,3 +1,5 @@
+use mathlib.Core.Path.{refl}
+use Rattle.grammar.proofs.Outcomes.{passed_on}
 use Rattle.blocks.proofs.Answering.{read_7, read_20, read_21, read_22, read_1, read_23, costs_held, read_25, fits, fronts_long, read_refused, read_counts, counts_held}
 use borrow.Author.Rules.{rules}
 use Rattle.blocks.proofs.read.Goals as goal
@@ -32,11 +34,11 @@ returns-then-file_free c = search (rules, read_25)
 pub fill-requires : goal.fill-requires
 fill-requires c = fits _ _ _ _ _ _ c.lists_wrong.ensures c.if-lists_wrong.false _ c.file_wrong.ensures c.if-file_wrong.false _ c.checks_differ.ensures c.if-checks_differ.false _ c.numbers_differ.ensures c.if-numbers_differ.false _ c.counts_of-c.ensures _ c.counts_out.ensures c.if-counts_out.false _ c.blocks_wrong.ensures c.if-blocks_wrong.false
 
-pub check_fronts-k-requires : goal.check_fronts-k-requires
-check_fronts-k-requires c = fronts_long _ _ _ _ _ _ _ c.fill.ensures
+pub check_fronts-requires : goal.check_fronts-requires
+check_fronts-requires c = fronts_long _ _ _ _ _ _ _ c.fill.ensures
 
-pub returns-in_default : goal.returns-in_default
-returns-in_default c = read_refused _ _ _ _ _ _ c.lists_wrong.ensures c.if-lists_wrong.false _ c.file_wrong.ensures c.if-file_wrong.false _ c.checks_differ.ensures c.if-checks_differ.false _ c.numbers_differ.ensures c.if-numbers_differ.false _ c.counts_of-c.ensures _ c.counts_out.ensures c.if-counts_out.false _ c.blocks_wrong.ensures c.if-blocks_wrong.false _ c.file_free.ensures c.if-file_free.false _ _ _ _ c.fill.ensures _ c.check_fronts-k.ensures _ _ c.in_default.is c.number.ensures
+pub returns-in_err-check_fronts : goal.returns-in_err-check_fronts
+returns-in_err-check_fronts c = rw (passed_on c.from_residual.ensures) (read_refused _ _ _ _ _ _ c.lists_wrong.ensures c.if-lists_wrong.false _ c.file_wrong.ensures c.if-file_wrong.false _ c.checks_differ.ensures c.if-checks_differ.false _ c.numbers_differ.ensures c.if-numbers_differ.false _ c.counts_of-c.ensures _ c.counts_out.ensures c.if-counts_out.false _ c.blocks_wrong.ensures c.if-blocks_wrong.false _ c.file_free.ensures c.if-file_free.false _ _ _ _ c.fill.ensures _ c.in_err-check_fronts.ensures _ refl)
 
 pub returns : goal.returns
-returns c = read_counts _ _ _ _ _ _ c.lists_wrong.ensures c.if-lists_wrong.false _ c.file_wrong.ensures c.if-file_wrong.false _ c.checks_differ.ensures c.if-checks_differ.false _ c.numbers_differ.ensures c.if-numbers_differ.false _ c.counts_of-c.ensures _ c.counts_out.ensures c.if-counts_out.false _ c.blocks_wrong.ensures c.if-blocks_wrong.false _ c.file_free.ensures c.if-file_free.false _ _ _ _ c.fill.ensures _ c.check_fronts-k.ensures c.in-Well.is
+returns c = read_counts _ _ _ _ _ _ c.lists_wrong.ensures c.if-lists_wrong.false _ c.file_wrong.ensures c.if-file_wrong.false _ c.checks_differ.ensures c.if-checks_differ.false _ c.numbers_differ.ensures c.if-numbers_differ.false _ c.counts_of-c.ensures _ c.counts_out.ensures c.if-counts_out.false _ c.blocks_wrong.ensures c.if-blocks_wrong.false _ c.file_free.ensures c.if-file_free.false _ _ _ _ c.fill.ensures _ c.in_ok-check_fronts.ensures refl

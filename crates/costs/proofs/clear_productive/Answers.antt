@@ -1,11 +1,12 @@
+use mathlib.Core.Path.{refl}
+use Rattle.grammar.proofs.Outcomes.{passed_on}
 use Rattle.tables.specs.Sizes.{row_wrong}
 use Rattle.tables.proofs.Asking.{one_refused, one_leaves}
 use Rattle.costs.proofs.Calling.{row_cleared}
-use borrow.Author.Rules.{rules}
 use Rattle.costs.proofs.clear_productive.Goals as goal
 
-pub returns-in_default : goal.returns-in_default
-returns-in_default c = search (rules, one_refused row_wrong)
+pub returns-in_err-row_due : goal.returns-in_err-row_due
+returns-in_err-row_due c = rw (passed_on c.from_residual.ensures) (one_refused row_wrong _ _ _ c.in_err-row_due.ensures _ refl)
 
 pub returns : goal.returns
-returns c = search (rules, one_leaves row_wrong, row_cleared)
+returns c = one_leaves row_wrong _ _ _ c.in_ok-row_due.ensures refl _ (row_cleared _ _ _ c.in_ok-row_due.ensures refl _ c.clear.ensures)

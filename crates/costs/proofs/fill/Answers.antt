@@ -1,14 +1,15 @@
+use mathlib.Core.Path.{refl}
+use Rattle.grammar.proofs.Outcomes.{passed_on}
 use Rattle.tables.specs.Sizes.{numbers_wrong}
 use Rattle.tables.proofs.Asking.{one_refused, one_leaves}
 use Rattle.costs.proofs.Calling.{cost_fillable}
-use borrow.Author.Rules.{rules}
 use Rattle.costs.proofs.fill.Goals as goal
 
-pub returns-in_default : goal.returns-in_default
-returns-in_default c = search (rules, one_refused numbers_wrong)
+pub returns-in_err-numbers_due : goal.returns-in_err-numbers_due
+returns-in_err-numbers_due c = rw (passed_on c.from_residual.ensures) (one_refused numbers_wrong _ _ _ c.in_err-numbers_due.ensures _ refl)
 
 pub cost_fill-requires : goal.cost_fill-requires
-cost_fill-requires c = search (rules, cost_fillable)
+cost_fill-requires c = cost_fillable _ _ _ c.in_ok-numbers_due.ensures refl
 
 pub returns : goal.returns
-returns c = search (rules, one_leaves numbers_wrong)
+returns c = one_leaves numbers_wrong _ _ _ c.in_ok-numbers_due.ensures refl _ c.cost_fill.ensures

@@ -1,11 +1,14 @@
 // COST: one production's step.
+ghost use Rattle.grammar.specs.Lent.{flat_of};
 ghost use Rattle.std.specs.Prelude.{not, ◌&&◌, ◌≡◌, ◌+◌, ◌<◌, min, length};
 ghost use Rattle.theory.specs.Entries.{cost_unknown};
-ghost use Rattle.grammar.specs.Flat.{flat, at, form};
+ghost use Rattle.grammar.specs.Flat.{at, form};
 ghost use Rattle.engine.specs.Cost.{Readable, ReadsCost, Summable, ReadsSum, Lowerable, Lowers};
+ghost use Rattle.engine.specs.Kinds.{cost};
 
-use crate::inner::Moved;
-use grammar::inner::{prod_at, wide};
+use crate::inner::{Moved, Table};
+use grammar::Grammar;
+use grammar::inner::{Prod, prod_at};
 
 // The entry of a rule that has sentences, none of which costs 65535 or less.
 const COST_DEAR: u32 = 65536;
@@ -34,38 +37,28 @@ pub fn token_cost(costs: &[u8], t: usize) -> u32
 }
 
 // What symbol s adds to a sum; a rule is marked as read.
-fn read_cost(costs: &[u8], cost: &[u32], s: u16, read: &mut [bool; 512]) -> u32
-    requires { Readable costs.now cost.now s read.old }
-    ensures { ReadsCost costs.now cost.now s read.old result read.new }
+fn read_cost(g: &Grammar, cost: &[u32], s: u16, read: &mut [bool; 512]) -> u32
+    requires { Readable g.now.costs.now cost.now s read.old }
+    ensures { ReadsCost g.now.costs.now cost.now s read.old result read.new }
 {
     if s < 32768 {
-        return token_cost(costs, wide(s));
+        return token_cost(g.costs, usize::from(s));
     }
-    let r = wide(s - 32768);
+    let r = usize::from(s - 32768);
     read[r] = true;
     entry_at(cost, r)
 }
 
-// The sum of the symbols from a up to e, or `top`, the owner's entry, where it comes to that, as one with an unknown part
+// The sum of the symbols of production q, or `top`, the owner's entry, where it comes to that, as one with an unknown part
 // does: then no further symbol is read. Where `top` is unknown every part is looked at, since an unknown one may come after
 // a dear total.
-fn sum_to(
-    symbols: &[u16],
-    costs: &[u8],
-    a: usize,
-    e: usize,
-    cost: &[u32],
-    top: u32,
-    read: &mut [bool; 512],
-) -> u32
-    requires { Summable symbols.now costs.now a e cost.now top read.old }
-    ensures { ReadsSum top costs.now cost.now (form symbols.now a e) read.old result read.new }
+fn sum_to(g: &Grammar, q: Prod, cost: &[u32], top: u32, read: &mut [bool; 512]) -> u32
+    requires { Summable g.now.symbols.now g.now.costs.now q.from q.to cost.now top read.old }
+    ensures { ReadsSum top g.now.costs.now cost.now (form g.now.symbols.now q.from q.to) read.old result read.new }
 {
     let mut n: u32 = 0;
-    let mut i = a;
-    while i < e {
-        let x = read_cost(costs, cost, symbols[i], read);
-        i += 1;
+    for &s in &g.symbols[q.from..q.to] {
+        let x = read_cost(g, cost, s, read);
         if x < top - n {
             n += x;
             continue;
@@ -93,20 +86,11 @@ fn capped(entry: u32) -> u32
 
 // Production p's step of COST: its owner's entry becomes the smaller of itself and the sum, if that is known.
 // The symbols are added up only until the sum comes to the entry; `read` tells the rules that were read so far.
-pub fn step(
-    rules: u16,
-    owners: &[u16],
-    starts: &[u16],
-    symbols: &[u16],
-    costs: &[u8],
-    p: usize,
-    read: &mut [bool; 512],
-    cost: &mut [u32],
-) -> Moved
-    requires { Lowerable (flat rules owners.now starts.now symbols.now costs.now) p cost.old read.old }
-    ensures { Lowers (flat rules owners.now starts.now symbols.now costs.now) p cost.old read.old result.changed (result.changed && not result.early) cost.new read.new }
+pub fn step(g: &Grammar, p: usize, read: &mut [bool; 512], cost: &mut [u32]) -> Moved
+    requires { Lowerable (flat_of g.now) p cost.old read.old }
+    ensures { Lowers (flat_of g.now) p cost.old read.old result.changed (result.changed && not result.early) cost.new read.new }
 {
-    let q = prod_at(owners, starts, p);
+    let q = prod_at(g, p);
     let owner = q.owner;
     let top = capped(entry_at(cost, owner));
     if top == 0 {
@@ -115,7 +99,7 @@ pub fn step(
             early: false,
         };
     }
-    let s = sum_to(symbols, costs, q.from, q.to, cost, top, read);
+    let s = sum_to(g, q, cost, top, read);
     if s < top {
         cost[owner] = s;
         return Moved {
@@ -126,5 +110,25 @@ pub fn step(
     Moved {
         changed: false,
         early: false,
+    }
+}
+
+// COST, as the rounds see it.
+#[derive(Clone, Copy)]
+pub struct Cost;
+
+impl Table for Cost {
+    ghost kind = { λ _. cost };
+
+    fn step(
+        &self,
+        g: &Grammar,
+        again: bool,
+        p: usize,
+        table: &mut [u32],
+        row: &mut [u32],
+        read: &mut [bool; 512],
+    ) -> Moved {
+        step(g, p, read, table)
     }
 }

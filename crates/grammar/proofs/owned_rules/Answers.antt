@@ -3,14 +3,14 @@ use Rattle.grammar.proofs.Well.{owner_in}
 use borrow.Author.Rules.{rules}
 use Rattle.grammar.proofs.owned_rules.Goals as goal
 
-pub loop-p-init : goal.loop-p-init
-loop-p-init c = search (rules, owned_none)
+pub loop-owner-init : goal.loop-owner-init
+loop-owner-init c = search (rules, owned_none)
 
-pub bounds-owned-wide : goal.bounds-owned-wide
-bounds-owned-wide c = search (rules, owner_in)
+pub bounds-owned-from : goal.bounds-owned-from
+bounds-owned-from c = search (rules, owner_in)
 
-pub loop-p-preserved : goal.loop-p-preserved
-loop-p-preserved c = search (rules, owned_more, owner_in)
+pub loop-owner-preserved : goal.loop-owner-preserved
+loop-owner-preserved c = search (rules, owned_more, owner_in)
 
 pub returns : goal.returns
 returns c = search (rules, owned_all)

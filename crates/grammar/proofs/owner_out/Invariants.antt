@@ -1,13 +1,8 @@
 use mathlib.Core.Path.{◌≡◌}
-use Prim.Native.Nat.{◌≤◌, ◌-◌}
 use lib.Dec.{leb}
-use lib.ListN.{length}
 use Rattle.theory.specs.Below.{some}
 use Rattle.grammar.specs.Flat.{at}
 use Rattle.grammar.proofs.owner_out.Given as goal
 
-abbrev pub invariant-loop-p : goal.invariant-loop-p
-invariant-loop-p l = (l.p ≤ length l.owners) × (l.out ≡ some l.p (λ k. leb l.rules (at l.owners k)))
-
-abbrev pub decreases-loop-p : goal.decreases-loop-p
-decreases-loop-p l = length l.owners - l.p
+abbrev pub invariant-loop-owner : goal.invariant-loop-owner
+invariant-loop-owner l = l.out ≡ some l.owner-index (λ k. leb l.rules (at l.owners k))

@@ -5,7 +5,7 @@ use Rattle.grammar.proofs.Answer.{long_yes, long_other, long_one}
 use Rattle.grammar.proofs.Well.{laid_end}
 use borrow.Author.Rules.{rules}
 use Rattle.grammar.proofs.start_long.Goals as goal
-use Rattle.grammar.proofs.start_long.Goals.{else-owners-p-eq0-via-then-owners-p-eq0+else-not-one_rule, else-owners-p-eq0-via-else-owners-p-eq0}
+use Rattle.grammar.proofs.start_long.Goals.{else-owner-eq0-via-then-owner-eq0+else-not-one_rule, else-owner-eq0-via-else-owner-eq0}
 
 pub loop-p-init : goal.loop-p-init
 loop-p-init c = search (rules, some_none)
@@ -18,9 +18,9 @@ unfolding start_long
 returns-then-not-one_rule c = search (rules, some_yes, long_yes, told_not)
 
 pub loop-p-preserved : goal.loop-p-preserved
-loop-p-preserved c = elim c.else-owners-p-eq0.branch [
-  | else-owners-p-eq0-via-then-owners-p-eq0+else-not-one_rule w ↦ search (rules, some_more, long_one, told_so)
-  | else-owners-p-eq0-via-else-owners-p-eq0 w ↦ search (rules, some_more, long_other)
+loop-p-preserved c = elim c.else-owner-eq0.branch [
+  | else-owner-eq0-via-then-owner-eq0+else-not-one_rule w ↦ search (rules, some_more, long_one, told_so)
+  | else-owner-eq0-via-else-owner-eq0 w ↦ search (rules, some_more, long_other)
 ]
 
 pub returns : goal.returns

@@ -1,8 +1,5 @@
-use Rattle.house.specs.Table.{owners, starts, symbols, costs}
 use Rattle.house.proofs.Calling.{first_done}
-use borrow.Author.Rules.{rules}
 use Rattle.house.proofs.fill_first.Goals as goal
 
 pub returns : goal.returns
-unfolding owners starts symbols costs
-returns c = search (rules, first_done)
+returns c = first_done _ c.house.ensures _ _ _ _ _ c.fill.ensures

@@ -1,8 +1,5 @@
-use Rattle.house.specs.Table.{owners, starts, symbols, costs}
 use Rattle.house.proofs.Calling.{first_asked}
-use borrow.Author.Rules.{rules}
 use Rattle.house.proofs.is_first.Goals as goal
 
 pub returns : goal.returns
-unfolding owners starts symbols costs
-returns c = search (rules, first_asked)
+returns c = first_asked _ c.house.ensures _ _ _ _ c.is_set.ensures

@@ -1,8 +1,5 @@
-use Rattle.house.specs.Table.{owners, starts, symbols, costs}
 use Rattle.house.proofs.Calling.{cost_asked}
-use borrow.Author.Rules.{rules}
 use Rattle.house.proofs.min_cost.Goals as goal
 
 pub returns : goal.returns
-unfolding owners starts symbols costs
-returns c = search (rules, cost_asked)
+returns c = cost_asked _ c.house.ensures _ _ _ _ c.min_sentence_cost.ensures

@@ -10,13 +10,13 @@ pub copy-a-requires : goal.copy-a-requires
 copy-a-requires c = search (rules, out_room)
 
 pub number-b-requires : goal.number-b-requires
-number-b-requires c = search (rules, refused_number)
+number-b-requires c = refused_number _ _ c.out_wrong.ensures c.if-out_wrong.false _ (rw c.from.ensures c.ranges.number.fits) _ _ _ c.copy-a.ensures (omega arith)
 
 pub copy-end-requires : goal.copy-end-requires
-copy-end-requires c = search (rules, refused_feed)
+copy-end-requires c = refused_feed _ _ c.out_wrong.ensures c.if-out_wrong.false _ (rw c.from.ensures c.ranges.number.fits) _ _ _ c.copy-a.ensures (omega arith) _ _ c.number-b.ensures _ (omega arith)
 
 pub count-requires : goal.count-requires
-count-requires c = refused_count _ _ c.out_wrong.ensures c.if-out_wrong.false _ c.wide.ensures.1 _ _ _ c.copy-a.ensures (omega arith) _ _ c.number-b.ensures _ (omega arith) _ _ c.copy-end.ensures
+count-requires c = refused_count _ _ c.out_wrong.ensures c.if-out_wrong.false _ (rw c.from.ensures c.ranges.number.fits) _ _ _ c.copy-a.ensures (omega arith) _ _ c.number-b.ensures _ (omega arith) _ _ c.copy-end.ensures
 
 pub returns : goal.returns
 returns c = search (rules, refused_does)

@@ -1,7 +1,7 @@
 // Counts: a rule asks for the counts of the rules inside it, each with one level less.
+ghost use Rattle.grammar.specs.Lent.{flat_of};
 ghost use Rattle.std.specs.Prelude.{◌≡◌, ◌*◌, ◌≤◌, min};
 ghost use Rattle.theory.specs.Entries.{count_many};
-ghost use Rattle.grammar.specs.Flat.{flat};
 ghost use Rattle.engine.specs.Cost.{costs_of};
 ghost use Rattle.listings.specs.Calls.{CountsDefined};
 ghost use Rattle.listings.specs.Counting.{CountFillable, RuleCountable, RuleCounts, ProductionCountable, ProductionCounts};
@@ -9,7 +9,8 @@ ghost use Rattle.listings.specs.Counting.{CountFillable, RuleCountable, RuleCoun
 use crate::{COUNT_MANY, COUNT_MAX, COUNT_NONE};
 use costs::inner::add;
 use engine::inner::cost::entry_at;
-use grammar::inner::{start_at, wide};
+use grammar::Grammar;
+use grammar::inner::start_at;
 use sentences::inner::choices::cheapest_from;
 
 // A product of two counts, many if it is above 65535.
@@ -27,11 +28,7 @@ fn times(n: u32, x: u32) -> u32
 // The count of the symbols from a up to e, none if some rule has none within the levels.
 #[cycle(count_production_count_rule)]
 fn count_production(
-    rules: u16,
-    owners: &[u16],
-    starts: &[u16],
-    symbols: &[u16],
-    costs: &[u8],
+    g: &Grammar,
     next: &[u16; 4096],
     cost: &[u32],
     choice: &[u16; 512],
@@ -41,21 +38,16 @@ fn count_production(
     counts: &mut [u32],
     shallow: &mut [u16; 512],
 ) -> u32
-    requires { ProductionCountable (flat rules owners.now starts.now symbols.now costs.now) next.now cost.now choice.now levels a e counts.old shallow.old }
-    ensures { ProductionCounts (flat rules owners.now starts.now symbols.now costs.now) cost.now levels a e counts.old result counts.new shallow.new }
+    requires { ProductionCountable (flat_of g.now) next.now cost.now choice.now levels a e counts.old shallow.old }
+    ensures { ProductionCounts (flat_of g.now) cost.now levels a e counts.old result counts.new shallow.new }
 {
     let mut n: u32 = 1;
-    let mut i = a;
-    while i < e {
-        let s = symbols[i];
-        i += 1;
+    for &s in &g.symbols[a..e] {
         if s < 32768 {
             continue;
         }
-        let r = wide(s - 32768);
-        let x = count_rule(
-            rules, owners, starts, symbols, costs, next, cost, choice, levels, r, counts, shallow,
-        );
+        let r = usize::from(s - 32768);
+        let x = count_rule(g, next, cost, choice, levels, r, counts, shallow);
         if COUNT_MANY < x {
             return COUNT_NONE;
         }
@@ -68,11 +60,7 @@ fn count_production(
 // `shallow` how many levels are not enough.
 #[cycle(count_production_count_rule)]
 fn count_rule(
-    rules: u16,
-    owners: &[u16],
-    starts: &[u16],
-    symbols: &[u16],
-    costs: &[u8],
+    g: &Grammar,
     next: &[u16; 4096],
     cost: &[u32],
     choice: &[u16; 512],
@@ -81,31 +69,27 @@ fn count_rule(
     counts: &mut [u32],
     shallow: &mut [u16; 512],
 ) -> u32
-    requires { RuleCountable (flat rules owners.now starts.now symbols.now costs.now) next.now cost.now choice.now levels r counts.old shallow.old }
-    ensures { RuleCounts (flat rules owners.now starts.now symbols.now costs.now) cost.now levels r counts.old result counts.new shallow.new }
+    requires { RuleCountable (flat_of g.now) next.now cost.now choice.now levels r counts.old shallow.old }
+    ensures { RuleCounts (flat_of g.now) cost.now levels r counts.old result counts.new shallow.new }
 {
     let known = entry_at(counts, r);
     if known <= COUNT_MANY {
         return known;
     }
-    let mut p = wide(choice[r]);
-    if (4096 <= p) | (levels <= wide(shallow[r])) {
+    let mut p = usize::from(choice[r]);
+    if (4096 <= p) | (levels <= usize::from(shallow[r])) {
         return COUNT_NONE;
     }
     let mut total: u32 = 0;
-    while p < owners.len() {
+    while p < g.owners.len() {
         let x = count_production(
-            rules,
-            owners,
-            starts,
-            symbols,
-            costs,
+            g,
             next,
             cost,
             choice,
             levels - 1,
-            start_at(starts, p),
-            start_at(starts, p + 1),
+            start_at(g.starts, p),
+            start_at(g.starts, p + 1),
             counts,
             shallow,
         );
@@ -114,17 +98,7 @@ fn count_rule(
             return COUNT_NONE;
         }
         total = add(total, x);
-        p = cheapest_from(
-            rules,
-            owners,
-            starts,
-            symbols,
-            costs,
-            next,
-            cost,
-            r,
-            wide(next[p]),
-        );
+        p = cheapest_from(g, next, cost, r, usize::from(next[p]));
     }
     counts[r] = total;
     total
@@ -132,36 +106,19 @@ fn count_rule(
 
 // Leaves the counts in numbers of their count.
 pub fn count_fill(
-    rules: u16,
-    owners: &[u16],
-    starts: &[u16],
-    symbols: &[u16],
-    costs: &[u8],
+    g: &Grammar,
     next: &[u16; 4096],
     cost: &[u32],
     choice: &[u16; 512],
     counts: &mut [u32],
 )
-    requires { CountFillable (flat rules owners.now starts.now symbols.now costs.now) next.now cost.now choice.now counts.old }
-    ensures { CountsDefined (flat rules owners.now starts.now symbols.now costs.now) (costs_of cost.now) counts.new }
+    requires { CountFillable (flat_of g.now) next.now cost.now choice.now counts.old }
+    ensures { CountsDefined (flat_of g.now) (costs_of cost.now) counts.new }
 {
     rows::inner::clear(counts, COUNT_NONE);
-    let n = wide(rules);
+    let n = usize::from(g.rules);
     let mut shallow = [0; 512];
     for r in 0..n {
-        count_rule(
-            rules,
-            owners,
-            starts,
-            symbols,
-            costs,
-            next,
-            cost,
-            choice,
-            n,
-            r,
-            counts,
-            &mut shallow,
-        );
+        count_rule(g, next, cost, choice, n, r, counts, &mut shallow);
     }
 }

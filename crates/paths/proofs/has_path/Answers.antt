@@ -1,12 +1,16 @@
+use mathlib.Core.Path.{refl}
+use Rattle.grammar.proofs.Outcomes.{passed_on}
 use Rattle.paths.proofs.Calling.{path_refused, path_search, path_does}
-use borrow.Author.Rules.{rules}
 use Rattle.paths.proofs.has_path.Goals as goal
 
-pub returns-in_default : goal.returns-in_default
-returns-in_default c = search (rules, path_refused)
+pub returns-in_err-check : goal.returns-in_err-check
+returns-in_err-check c = rw (passed_on c.from_residual.ensures) (path_refused _ _ _ _ _ _ _ _ _ c.in_err-check.ensures refl _ refl)
+
+pub returns-in_err-refuse_if : goal.returns-in_err-refuse_if
+returns-in_err-refuse_if c = rw (passed_on c.from_residual-in_err-refuse_if.ensures) (path_refused _ _ _ _ _ _ _ _ _ c.in_ok-check.ensures c.in_err-refuse_if.ensures _ refl)
 
 pub search-requires : goal.search-requires
-search-requires c = search (rules, path_search)
+search-requires c = path_search _ _ _ _ _ _ _ _ _ c.in_ok-check.ensures c.in_ok-refuse_if.ensures refl _ _ _ refl c.from.ensures c.from-2.ensures
 
 pub returns : goal.returns
-returns c = search (rules, path_does)
+returns c = path_does _ _ _ _ _ _ _ _ _ c.in_ok-check.ensures c.in_ok-refuse_if.ensures refl _ _ _ refl c.from.ensures c.from-2.ensures _ _ c.search.ensures

@@ -19,4 +19,4 @@ pub slice_bounds-tables_report-end-4 : goal.slice_bounds-tables_report-end-4
 slice_bounds-tables_report-end-4 c = taken _ (replicate 512 0) (omega (arith, zeros 512))
 
 pub tables_report-requires : goal.tables_report-requires
-tables_report-requires c = record { fillable = fronts_fillable _ c.requires.well _ _ _ c.wide-n.ensures.0 c.words_for-w.ensures c.table_words-k.ensures.is; room = c.requires.room }
+tables_report-requires c = record { fillable = fronts_fillable _ c.requires.well _ _ _ c.from-n.ensures c.words_for-w.ensures c.table_words-k.ensures.is; room = c.requires.room }

@@ -3,4 +3,4 @@ use Rattle.report.proofs.Printing.{prints}
 use Rattle.report.proofs.main.Goals as goal
 
 pub print-requires : goal.print-requires
-print-requires c = prints (length c.read_file-got.new.file) c.in-Bytes.n c.read_file-got.new.file _ (omega arith) c.file_report-end.ensures.is
+print-requires c = prints (length c.read_file.new.file) c.in-Ok.n c.read_file.new.file _ (omega arith) c.file_report-end.ensures.is

@@ -1,15 +1,22 @@
+use mathlib.Core.Path.{refl}
+use Rattle.grammar.proofs.Outcomes.{passed_on}
 use Rattle.tables.proofs.Asking.{set_refused, set_few, set_place, set_answers}
-use borrow.Author.Rules.{rules}
 use Rattle.tables.proofs.is_set.Goals as goal
 
-pub returns-in_default : goal.returns-in_default
-returns-in_default c = search (rules, set_refused)
+pub returns-in_err-table_due : goal.returns-in_err-table_due
+returns-in_err-table_due c = rw (passed_on c.from_residual.ensures) (set_refused _ c.args.table.now _ _ _ _ _ c.in_err-table_due.ensures refl _ refl refl _ refl)
 
-pub words_for-width-requires : goal.words_for-width-requires
-words_for-width-requires c = set_few _ c.args.table.now _ _ _ _ _ c.table_due-c.ensures c.unless-d.ensures _ c.wide.ensures.0 c.unless-e.ensures c.in-Well.is
+pub returns-in_err-refuse_if : goal.returns-in_err-refuse_if
+returns-in_err-refuse_if c = rw (passed_on c.from_residual-in_err-refuse_if.ensures) (set_refused _ c.args.table.now _ _ _ _ _ c.in_ok-table_due.ensures c.in_err-refuse_if.ensures _ refl refl _ refl)
+
+pub returns-in_err-refuse_if-2 : goal.returns-in_err-refuse_if-2
+returns-in_err-refuse_if-2 c = rw (passed_on c.from_residual-in_err-refuse_if-2.ensures) (set_refused _ c.args.table.now _ _ _ _ _ c.in_ok-table_due.ensures c.in_ok-refuse_if.ensures _ c.from.ensures c.in_err-refuse_if-2.ensures _ refl)
+
+pub table_width-width-requires : goal.table_width-width-requires
+table_width-width-requires c = set_few _ c.args.table.now _ _ _ _ _ c.in_ok-table_due.ensures c.in_ok-refuse_if.ensures _ c.from.ensures c.in_ok-refuse_if-2.ensures refl
 
 pub is_set-requires : goal.is_set-requires
-is_set-requires c = set_place _ c.args.table.now _ _ _ _ _ c.table_due-c.ensures c.unless-d.ensures _ c.wide.ensures.0 c.unless-e.ensures c.in-Well.is _ _ _ c.words_for-width.ensures c.wide-2.ensures.0 c.wide-3.ensures.0
+is_set-requires c = set_place _ c.args.table.now _ _ _ _ _ c.in_ok-table_due.ensures c.in_ok-refuse_if.ensures _ c.from.ensures c.in_ok-refuse_if-2.ensures refl _ _ _ c.table_width-width.ensures c.from-2.ensures c.from-3.ensures
 
 pub returns : goal.returns
-returns c = search (rules, set_answers)
+returns c = set_answers _ c.args.table.now _ _ _ _ _ c.in_ok-table_due.ensures c.in_ok-refuse_if.ensures _ c.from.ensures c.in_ok-refuse_if-2.ensures refl _ _ _ c.table_width-width.ensures c.from-2.ensures c.from-3.ensures _ c.is_set.ensures

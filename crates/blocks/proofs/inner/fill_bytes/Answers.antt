@@ -1,13 +1,13 @@
+use borrow.Author.Rules.{rules}
 use Rattle.blocks.specs.Layout.{bytes}
 use Rattle.blocks.proofs.Lists.{fill_start, fill_on, fill_end}
-use borrow.Author.Rules.{rules}
 use Rattle.blocks.proofs.inner.fill_bytes.Goals as goal
 
 pub loop-k-init : goal.loop-k-init
 loop-k-init c = search (rules, fill_start)
 
 pub loop-k-preserved : goal.loop-k-preserved
-loop-k-preserved c = (search rules, fill_on _ _ _ _ _ c.loop-k.invariant.1 (search rules) (search rules))
+loop-k-preserved c = search (rules, fill_on)
 
 pub returns : goal.returns
 unfolding bytes

@@ -1,10 +1,7 @@
-use Prim.Native.Nat.{◌+◌, ◌*◌, ◌-◌, ◌≤◌}
+use Prim.Native.Nat.{◌+◌, ◌*◌}
 use Rattle.blocks.specs.Layout.{number}
 use Rattle.blocks.proofs.Lists.{Filling}
 use Rattle.blocks.proofs.inner.fill_numbers.Given as goal
 
 abbrev pub invariant-loop-k : goal.invariant-loop-k
-invariant-loop-k l = (l.k ≤ l.n) × Filling (λ j. number l.file (l.from + 2 * j)) l.initial.list l.list l.k
-
-abbrev pub decreases-loop-k : goal.decreases-loop-k
-decreases-loop-k l = l.n - l.k
+invariant-loop-k l = Filling (λ j. number l.file (l.from + 2 * j)) l.initial.x-items l.x-items l.k

@@ -1,19 +1,13 @@
-use Rattle.theory.proofs.Below.{some_none, some_more, some_yes, some_no}
+use Rattle.std.proofs.Common.{rules}
+use borrow.Author.Tests.{tests}
+use mathlib.Core.Bool.{not}
+use mathlib.Core.Path.{refl}
+use lib.Dec.{eqb}
+use Rattle.blocks.specs.Layout.{payload}
 use Rattle.blocks.specs.Refusals.{spare_used}
-use Rattle.blocks.proofs.Steps.{spare_not, spare_zero}
-use borrow.Author.Rules.{rules}
+use Rattle.blocks.proofs.Chains.{any_range}
 use Rattle.blocks.proofs.inner.spare_used.Goals as goal
-
-pub loop-k-init : goal.loop-k-init
-loop-k-init c = search (rules, some_none)
-
-pub returns-then-payload_byte-ne0 : goal.returns-then-payload_byte-ne0
-unfolding spare_used
-returns-then-payload_byte-ne0 c = search (rules, some_yes, spare_not)
-
-pub loop-k-preserved : goal.loop-k-preserved
-loop-k-preserved c = search (rules, some_more, spare_zero)
 
 pub returns : goal.returns
 unfolding spare_used
-returns c = search (rules, some_no)
+returns c = any_range (λ i. not (eqb (payload c.args.file.now i) 0)) _ _ _ _ c.any.ensures.ran (λ x b q k. search (rules, tests)) _ refl

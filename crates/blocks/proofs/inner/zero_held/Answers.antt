@@ -1,16 +1,10 @@
-use Rattle.theory.proofs.Below.{some_none, some_more, some_yes, some_no}
-use Rattle.blocks.proofs.Steps.{zero_is, zero_not}
-use borrow.Author.Rules.{rules}
+use Rattle.std.proofs.Common.{rules}
+use borrow.Author.Tests.{tests}
+use native.Mathlib.Omega.{arith}
+use lib.Dec.{eqb}
+use Rattle.blocks.specs.Layout.{payload}
+use Rattle.blocks.proofs.Chains.{any_range}
 use Rattle.blocks.proofs.inner.zero_held.Goals as goal
 
-pub loop-k-init : goal.loop-k-init
-loop-k-init c = search (rules, some_none)
-
-pub returns-then-payload_byte-eq0 : goal.returns-then-payload_byte-eq0
-returns-then-payload_byte-eq0 c = search (rules, some_yes, zero_is)
-
-pub loop-k-preserved : goal.loop-k-preserved
-loop-k-preserved c = search (rules, some_more, zero_not)
-
 pub returns : goal.returns
-returns c = search (rules, some_no)
+returns c = any_range (λ i. eqb (payload c.args.file.now i) 0) _ _ _ _ c.any.ensures.ran (λ x b q k. search (rules, tests)) c.args.n (omega arith)

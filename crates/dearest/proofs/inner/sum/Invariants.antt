@@ -1,9 +1,6 @@
-use Prim.Native.Nat.{◌-◌}
+use Rattle.std.proofs.Common.{length}
 use Rattle.dearest.proofs.Summing.{Summed}
 use Rattle.dearest.proofs.inner.sum.Given as goal
 
-abbrev pub invariant-loop-i : goal.invariant-loop-i
-invariant-loop-i l = Summed l.symbols l.costs l.a l.e l.dearest l.i l.n
-
-abbrev pub decreases-loop-i : goal.decreases-loop-i
-decreases-loop-i l = l.i - l.a
+abbrev pub invariant-loop-s : goal.invariant-loop-s
+invariant-loop-s l = Summed l.symbols l.costs l.a l.e l.dearest (length l.yielded) l.n

@@ -5,23 +5,23 @@ use Rattle.jobs.proofs.inner.step.Goals as goal
 pub step-requires : goal.step-requires
 step-requires c = search (rules, ready_first)
 
-pub returns-then-kind-eq-JOB_FIRST : goal.returns-then-kind-eq-JOB_FIRST
-returns-then-kind-eq-JOB_FIRST c = search (rules, made_first)
+pub returns-in-First : goal.returns-in-First
+returns-in-First c = search (rules, made_first)
 
-pub step-requires-then-kind-eq-JOB_FOLLOW : goal.step-requires-then-kind-eq-JOB_FOLLOW
-step-requires-then-kind-eq-JOB_FOLLOW c = search (rules, ready_follow)
+pub step-requires-in-Follow : goal.step-requires-in-Follow
+step-requires-in-Follow c = search (rules, ready_follow)
 
-pub returns-then-kind-eq-JOB_FOLLOW : goal.returns-then-kind-eq-JOB_FOLLOW
-returns-then-kind-eq-JOB_FOLLOW c = search (rules, made_follow)
+pub returns-in-Follow : goal.returns-in-Follow
+returns-in-Follow c = search (rules, made_follow)
 
-pub step-requires-then-kind-eq-JOB_PRODUCTIVE : goal.step-requires-then-kind-eq-JOB_PRODUCTIVE
-step-requires-then-kind-eq-JOB_PRODUCTIVE c = search (rules, ready_row)
+pub step-requires-in-Productive : goal.step-requires-in-Productive
+step-requires-in-Productive c = search (rules, ready_row)
 
-pub returns-then-kind-eq-JOB_PRODUCTIVE : goal.returns-then-kind-eq-JOB_PRODUCTIVE
-returns-then-kind-eq-JOB_PRODUCTIVE c = search (rules, made_row)
+pub returns-in-Productive : goal.returns-in-Productive
+returns-in-Productive c = search (rules, made_row)
 
-pub step-got-requires : goal.step-got-requires
-step-got-requires c = search (rules, ready_cost)
+pub step-requires-in-Cost : goal.step-requires-in-Cost
+step-requires-in-Cost c = search (rules, ready_cost)
 
-pub returns : goal.returns
-returns c = search (rules, made_cost)
+pub returns-in-Cost : goal.returns-in-Cost
+returns-in-Cost c = search (rules, made_cost)

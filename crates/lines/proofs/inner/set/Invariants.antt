@@ -1,9 +1,5 @@
-use Prim.Native.Nat.{◌-◌}
 use Rattle.lines.proofs.Sets.{Setting}
 use Rattle.lines.proofs.inner.set.Given as goal
 
 abbrev pub invariant-loop-t : goal.invariant-loop-t
 invariant-loop-t l = Setting l.tokens l.width l.table l.r l.initial.out l.at l.out l.next l.some l.t
-
-abbrev pub decreases-loop-t : goal.decreases-loop-t
-decreases-loop-t l = l.tokens - l.t

@@ -30,7 +30,7 @@ pub loop-p-smaller : goal.loop-p-smaller
 loop-p-smaller c = search (rules, rule_less)
 
 pub loop-p-preserved : goal.loop-p-preserved
-loop-p-preserved c = rule_on _ _ _ _ _ _ _ c.requires _ _ c.loop-p.invariant c.loop-p-test.true _ _ c.start_at-a.ensures.0 c.start_at-e.ensures.0 _ c.wide-p-in-loop-p.ensures.0 _ c.prod-m.ensures
+loop-p-preserved c = rule_on _ _ _ _ _ _ _ c.requires _ _ c.loop-p.invariant c.loop-p-test.true _ _ c.start_at-a.ensures.0 c.start_at-e.ensures.0 _ c.from-p-in-loop-p.ensures _ c.prod-m.ensures
 
 pub returns : goal.returns
 returns c = search (rules, rule_end)

@@ -37,4 +37,4 @@ pub loop-from-smaller : goal.loop-from-smaller
 loop-from-smaller c = turns_less _ _ _ _ _ _ _ _ _ _ _ c.loop-from.invariant _ c.rule-n.ensures _ c.is_set.ensures c.if-is_set.false c.if-n-done.false
 
 pub loop-from-preserved : goal.loop-from-preserved
-loop-from-preserved c = turns_on _ _ _ _ _ _ _ _ _ _ _ c.loop-from.invariant _ c.rule-n.ensures _ c.is_set.ensures c.if-is_set.false c.if-n-done.false _ c.wide-r.ensures.0
+loop-from-preserved c = turns_on _ _ _ _ _ _ _ _ _ _ _ c.loop-from.invariant _ c.rule-n.ensures _ c.is_set.ensures c.if-is_set.false c.if-n-done.false _ c.from-r.ensures

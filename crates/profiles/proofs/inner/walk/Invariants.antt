@@ -1,12 +1,8 @@
 use mathlib.Core.Path.{◌≡◌}
-use Prim.Native.Nat.{◌-◌}
 use Rattle.tables.specs.Sizes.{words}
 use Rattle.engine.specs.First.{lent as firsts}
 use Rattle.profiles.proofs.Walking.{Going}
 use Rattle.profiles.proofs.inner.walk.Given as goal
 
-abbrev pub invariant-loop-i : goal.invariant-loop-i
-invariant-loop-i l = (l.width ≡ words l.tokens) × ((l.line ≡ words l.rules) × Going l.rules l.tokens l.symbols l.a l.e (firsts l.first l.empty) l.initial.row l.row l.i)
-
-abbrev pub decreases-loop-i : goal.decreases-loop-i
-decreases-loop-i l = l.e - l.i
+abbrev pub invariant-loop-s : goal.invariant-loop-s
+invariant-loop-s l = (l.width ≡ words l.tokens) × ((l.line ≡ words l.rules) × Going l.rules l.tokens l.symbols l.a l.e (firsts l.first l.empty) l.initial.row l.row l.s-index)

@@ -1,14 +1,14 @@
 use mathlib.Core.Path.{refl}
 use Rattle.grammar.proofs.Callers.{few_rules, few_tokens}
+use Rattle.grammar.proofs.Outcomes.{passed_on}
 use Rattle.tables.proofs.Asking.{due_grammar, due_7}
-use borrow.Author.Rules.{rules}
 use Rattle.tables.proofs.inner.table_due.Goals as goal
 
-pub returns-in_default : goal.returns-in_default
-returns-in_default c = search (rules, due_grammar)
+pub returns-in_err-check : goal.returns-in_err-check
+returns-in_err-check c = rw (passed_on c.from_residual.ensures) (due_grammar _ _ _ _ c.in_err-check.ensures)
 
 pub table_wrong-requires : goal.table_wrong-requires
-table_wrong-requires c = (few_rules _ _ _ _ _ _ c.check-c.ensures c.in-Well.is _ refl, few_tokens _ _ _ _ _ _ c.check-c.ensures c.in-Well.is)
+table_wrong-requires c = (few_rules _ _ _ _ _ _ c.in_ok-check.ensures refl _ refl, few_tokens _ _ _ _ _ _ c.in_ok-check.ensures refl)
 
 pub returns : goal.returns
-returns c = due_7 _ _ _ _ c.check-c.ensures _ _ c.table_wrong.ensures c.unless.ensures
+returns c = due_7 _ _ _ _ c.in_ok-check.ensures _ _ c.table_wrong.ensures c.refuse_if.ensures

@@ -19,17 +19,17 @@ returns-then-j-eq2 c = search (rules, prods_at)
 pub returns-then-j-eq3 : goal.returns-then-j-eq3
 returns-then-j-eq3 c = search (rules, held_at)
 
-pub returns-then-o-owners : goal.returns-then-o-owners
-returns-then-o-owners c = owner_at _ _ (omega arith) _ (omega arith) refl
+pub returns-then-o-g : goal.returns-then-o-g
+returns-then-o-g c = owner_at _ _ (omega arith) _ (omega arith) refl
 
-pub returns-then-s-starts : goal.returns-then-s-starts
-returns-then-s-starts c = start_at _ _ (omega arith) _ (omega arith) (omega arith) refl
+pub returns-then-s-g : goal.returns-then-s-g
+returns-then-s-g c = start_at _ _ (omega arith) _ (omega arith) (omega arith) refl
 
-pub offset_bounds-symbols-y : goal.offset_bounds-symbols-y
-offset_bounds-symbols-y c = omega (arith, symbol_in _ _ c.requires (omega arith) (omega arith) (omega arith))
+pub offset_bounds-g-y : goal.offset_bounds-g-y
+offset_bounds-g-y c = omega (arith, symbol_in _ _ c.requires (omega arith) (omega arith) (omega arith))
 
-pub bounds-symbols-y : goal.bounds-symbols-y
-bounds-symbols-y c = symbol_in _ _ c.requires (omega arith) (omega arith) (omega arith)
+pub bounds-g-y : goal.bounds-g-y
+bounds-g-y c = symbol_in _ _ c.requires (omega arith) (omega arith) (omega arith)
 
 pub returns : goal.returns
 returns c = symbol_at _ _ (omega arith) _ (omega arith) (omega arith) refl

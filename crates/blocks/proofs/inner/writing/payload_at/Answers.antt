@@ -11,8 +11,8 @@ returns-then-i-eq0 c = search (rules, low_at)
 pub returns-then-i-n : goal.returns-then-i-n
 returns-then-i-n c = search (rules, high_at)
 
-pub returns-then-k-costs : goal.returns-then-k-costs
-returns-then-k-costs c = search (rules, cost_at)
+pub returns-then-k-g : goal.returns-then-k-g
+returns-then-k-g c = search (rules, cost_at)
 
 pub returns : goal.returns
 returns c = search (rules, spare_at)

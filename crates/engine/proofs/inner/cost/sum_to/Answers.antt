@@ -2,14 +2,14 @@ use Rattle.engine.proofs.Reading.{reading_start, reading_ready, reading_below, r
 use borrow.Author.Rules.{rules}
 use Rattle.engine.proofs.inner.cost.sum_to.Goals as goal
 
-pub loop-i-init : goal.loop-i-init
-loop-i-init c = search (rules, reading_start)
+pub loop-s-init : goal.loop-s-init
+loop-s-init c = search (rules, reading_start)
 
 pub read_cost-x-requires : goal.read_cost-x-requires
 read_cost-x-requires c = search (rules, reading_ready)
 
-pub loop-i-preserved-then-x-top : goal.loop-i-preserved-then-x-top
-loop-i-preserved-then-x-top c = search (rules, reading_below)
+pub loop-s-preserved-then-x-top : goal.loop-s-preserved-then-x-top
+loop-s-preserved-then-x-top c = search (rules, reading_below)
 
 pub returns-then-top-le-COST_DEAR : goal.returns-then-top-le-COST_DEAR
 returns-then-top-le-COST_DEAR c = search (rules, reading_known)
@@ -17,8 +17,8 @@ returns-then-top-le-COST_DEAR c = search (rules, reading_known)
 pub returns-then-x-gt-COST_DEAR : goal.returns-then-x-gt-COST_DEAR
 returns-then-x-gt-COST_DEAR c = search (rules, reading_unknown)
 
-pub loop-i-preserved : goal.loop-i-preserved
-loop-i-preserved c = search (rules, reading_cut)
+pub loop-s-preserved : goal.loop-s-preserved
+loop-s-preserved c = search (rules, reading_cut)
 
 pub returns : goal.returns
 returns c = search (rules, reading_end)

@@ -5,8 +5,8 @@ use Rattle.engine.proofs.inner.first.is_plain.Goals as goal
 pub returns-then-e-a : goal.returns-then-e-a
 returns-then-e-a c = search (rules, plain_none)
 
-pub bounds-symbols-a : goal.bounds-symbols-a
-bounds-symbols-a c = search (rules, plain_in)
+pub bounds-g-a : goal.bounds-g-a
+bounds-g-a c = search (rules, plain_in)
 
 pub returns : goal.returns
 returns c = search (rules, plain_some)

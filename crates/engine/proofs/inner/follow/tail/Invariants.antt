@@ -1,10 +1,7 @@
-use Prim.Native.Nat.{◌-◌}
+use Rattle.std.proofs.Common.{length}
 use Rattle.engine.proofs.Tailing.{Tailing}
 use Rattle.engine.proofs.inner.follow.tail.Given as goal
 
-abbrev pub invariant-loop-i : goal.invariant-loop-i
-invariant-loop-i l =
-    Tailing l.rules l.tokens l.symbols l.a l.e l.owner l.empty l.initial.follow l.follow l.new l.i
-
-abbrev pub decreases-loop-i : goal.decreases-loop-i
-decreases-loop-i l = l.e - l.a - l.i
+abbrev pub invariant-loop-s : goal.invariant-loop-s
+invariant-loop-s l =
+    Tailing l.g.rules (length l.g.costs.now) l.g.symbols.now l.q.from l.q.to l.q.owner l.empty l.initial.follow l.follow l.new (length l.yielded)

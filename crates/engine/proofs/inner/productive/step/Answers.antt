@@ -11,8 +11,8 @@ all_marked-requires c = search (rules, marking)
 pub returns-then-not-all_marked : goal.returns-then-not-all_marked
 returns-then-not-all_marked c = search (rules, row_stays)
 
-pub words_for-requires : goal.words_for-requires
-words_for-requires c = search (rules, few)
+pub row_width-requires : goal.row_width-requires
+row_width-requires c = search (rules, few)
 
 pub set-requires : goal.set-requires
 set-requires c = search (rules, owner_place)

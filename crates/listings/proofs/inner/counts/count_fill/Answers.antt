@@ -6,13 +6,13 @@ pub loop-r-init : goal.loop-r-init
 loop-r-init c = filling_start _ _ _ _ _ c.requires _ c.clear.ensures
 
 pub count_rule-requires : goal.count_rule-requires
-count_rule-requires c = filling_rule _ _ _ _ _ c.requires _ _ _ c.loop-r.invariant _ c.wide-n.ensures.0 c.loop-r-test.true
+count_rule-requires c = filling_rule _ _ _ _ _ c.requires _ _ _ c.loop-r.invariant _ c.from-n.ensures c.loop-r-test.true
 
 pub loop-r-preserved : goal.loop-r-preserved
-loop-r-preserved c = filling_on _ _ _ _ _ c.requires _ _ _ c.loop-r.invariant _ c.wide-n.ensures.0 c.loop-r-test.true _ _ _ c.count_rule.ensures
+loop-r-preserved c = filling_on _ _ _ _ _ c.requires _ _ _ c.loop-r.invariant _ c.from-n.ensures c.loop-r-test.true _ _ _ c.count_rule.ensures
 
 pub shape_of-counts : goal.shape_of-counts
 shape_of-counts c = filling_long _ _ _ _ _ c.requires _ _ _ c.loop-r.invariant
 
 pub returns : goal.returns
-returns c = filling_end _ _ _ _ _ c.requires _ _ _ c.loop-r.invariant (omega (arith, c.wide-n.ensures.0, c.loop-r-test.false))
+returns c = filling_end _ _ _ _ _ c.requires _ _ _ c.loop-r.invariant (omega (arith, c.from-n.ensures, c.loop-r-test.false))

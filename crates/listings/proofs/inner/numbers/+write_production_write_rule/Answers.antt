@@ -5,50 +5,50 @@ use Rattle.listings.proofs.Writing.{writing_end, writing_first, writing_long, wr
 use native.Mathlib.Omega.{arith}
 use Rattle.listings.proofs.inner.numbers.+write_production_write_rule.Goals as goal
 
-pub write_production-loop-i-init : goal.write_production-loop-i-init
-write_production-loop-i-init t c = writing_start _ _ _ _ _ _ _ _ _ _ _ _ _ c.requires
+pub write_production-loop-s-init : goal.write_production-loop-s-init
+write_production-loop-s-init t c = writing_start _ _ _ _ _ _ _ _ _ _ _ _ _ c.requires
 
 pub write_production-offset_bounds-out-to : goal.write_production-offset_bounds-out-to
-write_production-offset_bounds-out-to t c = omega (arith, writing_low _ _ _ _ _ _ _ _ _ _ _ _ _ c.requires _ _ _ _ _ c.loop-i.invariant c.loop-i-test.true _ refl c.if-s-lt32768.true)
+write_production-offset_bounds-out-to t c = omega (arith, writing_low _ _ _ _ _ _ _ _ _ _ _ _ _ c.requires _ _ _ _ _ c.loop-s.invariant c.loop-s-test.true _ refl c.if-s-lt32768.true)
 
 pub write_production-bounds-out-to : goal.write_production-bounds-out-to
-write_production-bounds-out-to t c = writing_place _ _ _ _ _ _ _ _ _ _ _ _ _ c.requires _ _ _ _ _ c.loop-i.invariant c.loop-i-test.true _ refl c.if-s-lt32768.true
+write_production-bounds-out-to t c = writing_place _ _ _ _ _ _ _ _ _ _ _ _ _ c.requires _ _ _ _ _ c.loop-s.invariant c.loop-s-test.true _ refl c.if-s-lt32768.true
 
 pub write_production-overflow_add-to : goal.write_production-overflow_add-to
-write_production-overflow_add-to t c = omega (arith, writing_low _ _ _ _ _ _ _ _ _ _ _ _ _ c.requires _ _ _ _ _ c.loop-i.invariant c.loop-i-test.true _ refl c.if-s-lt32768.true)
+write_production-overflow_add-to t c = omega (arith, writing_low _ _ _ _ _ _ _ _ _ _ _ _ _ c.requires _ _ _ _ _ c.loop-s.invariant c.loop-s-test.true _ refl c.if-s-lt32768.true)
 
-pub write_production-loop-i-preserved-then-s-lt32768 : goal.write_production-loop-i-preserved-then-s-lt32768
-write_production-loop-i-preserved-then-s-lt32768 t c = writing_token _ _ _ _ _ _ _ _ _ _ _ _ _ c.requires _ _ _ _ _ c.loop-i.invariant c.loop-i-test.true _ refl c.if-s-lt32768.true
+pub write_production-loop-s-preserved-then-s-lt32768 : goal.write_production-loop-s-preserved-then-s-lt32768
+write_production-loop-s-preserved-then-s-lt32768 t c = writing_token _ _ _ _ _ _ _ _ _ _ _ _ _ c.requires _ _ _ _ _ c.loop-s.invariant c.loop-s-test.true _ refl c.if-s-lt32768.true
 
 pub write_production-entry_at-requires : goal.write_production-entry_at-requires
-write_production-entry_at-requires t c = along_entry _ _ _ _ _ _ _ _ _ _ c.requires.measure _ _ c.loop-i.invariant.along c.loop-i-test.true _ refl c.if-s-lt32768.false _ c.wide-r.ensures.0
+write_production-entry_at-requires t c = along_entry _ _ _ _ _ _ _ _ _ _ c.requires.measure _ _ c.loop-s.invariant.along c.loop-s-test.true _ refl c.if-s-lt32768.false _ c.from-r.ensures
 
 pub write_production-expand_rule-to-requires : goal.write_production-expand_rule-to-requires
-write_production-expand_rule-to-requires t c = writing_first _ _ _ _ _ _ _ _ _ _ _ _ _ c.requires _ _ _ _ _ c.loop-i.invariant c.loop-i-test.true _ refl c.if-s-lt32768.false _ c.wide-r.ensures.0 _ c.entry_at.ensures c.if-entry_at-eq1.true
+write_production-expand_rule-to-requires t c = writing_first _ _ _ _ _ _ _ _ _ _ _ _ _ c.requires _ _ _ _ _ c.loop-s.invariant c.loop-s-test.true _ refl c.if-s-lt32768.false _ c.from-r.ensures _ c.entry_at.ensures c.if-entry_at-eq1.true
 
-pub write_production-loop-i-preserved-then-entry_at-eq1 : goal.write_production-loop-i-preserved-then-entry_at-eq1
-write_production-loop-i-preserved-then-entry_at-eq1 t c = writing_one _ _ _ _ _ _ _ _ _ _ _ _ _ c.requires _ _ _ _ _ c.loop-i.invariant c.loop-i-test.true _ refl c.if-s-lt32768.false _ c.wide-r.ensures.0 _ c.entry_at.ensures c.if-entry_at-eq1.true _ _ _ c.expand_rule-to.ensures
+pub write_production-loop-s-preserved-then-entry_at-eq1 : goal.write_production-loop-s-preserved-then-entry_at-eq1
+write_production-loop-s-preserved-then-entry_at-eq1 t c = writing_one _ _ _ _ _ _ _ _ _ _ _ _ _ c.requires _ _ _ _ _ c.loop-s.invariant c.loop-s-test.true _ refl c.if-s-lt32768.false _ c.from-r.ensures _ c.entry_at.ensures c.if-entry_at-eq1.true _ _ _ c.expand_rule-to.ensures
 
 pub write_production-offset_bounds-todo-j : goal.write_production-offset_bounds-todo-j
-write_production-offset_bounds-todo-j t c = omega (arith, along_place _ _ _ _ _ _ _ _ _ _ c.requires.measure _ _ c.loop-i.invariant.along c.loop-i-test.true _ refl c.if-s-lt32768.false _ c.wide-r.ensures.0 _ c.entry_at.ensures c.if-entry_at-eq1.false)
+write_production-offset_bounds-todo-j t c = omega (arith, along_place _ _ _ _ _ _ _ _ _ _ c.requires.measure _ _ c.loop-s.invariant.along c.loop-s-test.true _ refl c.if-s-lt32768.false _ c.from-r.ensures _ c.entry_at.ensures c.if-entry_at-eq1.false)
 
 pub write_production-bounds-todo-j : goal.write_production-bounds-todo-j
-write_production-bounds-todo-j t c = along_place _ _ _ _ _ _ _ _ _ _ c.requires.measure _ _ c.loop-i.invariant.along c.loop-i-test.true _ refl c.if-s-lt32768.false _ c.wide-r.ensures.0 _ c.entry_at.ensures c.if-entry_at-eq1.false
+write_production-bounds-todo-j t c = along_place _ _ _ _ _ _ _ _ _ _ c.requires.measure _ _ c.loop-s.invariant.along c.loop-s-test.true _ refl c.if-s-lt32768.false _ c.from-r.ensures _ c.entry_at.ensures c.if-entry_at-eq1.false
 
 pub write_production-write_rule-to-requires : goal.write_production-write_rule-to-requires
-write_production-write_rule-to-requires t c = (omega arith, writing_rule _ _ _ _ _ _ _ _ _ _ _ _ _ c.requires _ _ _ _ _ c.loop-i.invariant c.loop-i-test.true _ refl c.if-s-lt32768.false _ c.wide-r.ensures.0 _ c.entry_at.ensures c.if-entry_at-eq1.false _ refl)
+write_production-write_rule-to-requires t c = (omega arith, writing_rule _ _ _ _ _ _ _ _ _ _ _ _ _ c.requires _ _ _ _ _ c.loop-s.invariant c.loop-s-test.true _ refl c.if-s-lt32768.false _ c.from-r.ensures _ c.entry_at.ensures c.if-entry_at-eq1.false _ refl)
 
 pub write_production-overflow_add-j : goal.write_production-overflow_add-j
-write_production-overflow_add-j t c = omega (arith, along_place _ _ _ _ _ _ _ _ _ _ c.requires.measure _ _ c.loop-i.invariant.along c.loop-i-test.true _ refl c.if-s-lt32768.false _ c.wide-r.ensures.0 _ c.entry_at.ensures c.if-entry_at-eq1.false)
+write_production-overflow_add-j t c = omega (arith, along_place _ _ _ _ _ _ _ _ _ _ c.requires.measure _ _ c.loop-s.invariant.along c.loop-s-test.true _ refl c.if-s-lt32768.false _ c.from-r.ensures _ c.entry_at.ensures c.if-entry_at-eq1.false)
 
-pub write_production-loop-i-preserved : goal.write_production-loop-i-preserved
-write_production-loop-i-preserved t c = writing_on _ _ _ _ _ _ _ _ _ _ _ _ _ c.requires _ _ _ _ _ c.loop-i.invariant c.loop-i-test.true _ refl c.if-s-lt32768.false _ c.wide-r.ensures.0 _ c.entry_at.ensures c.if-entry_at-eq1.false _ refl _ _ _ c.write_rule-to.ensures
+pub write_production-loop-s-preserved : goal.write_production-loop-s-preserved
+write_production-loop-s-preserved t c = writing_on _ _ _ _ _ _ _ _ _ _ _ _ _ c.requires _ _ _ _ _ c.loop-s.invariant c.loop-s-test.true _ refl c.if-s-lt32768.false _ c.from-r.ensures _ c.entry_at.ensures c.if-entry_at-eq1.false _ refl _ _ _ c.write_rule-to.ensures
 
 pub write_production-shape_of-out : goal.write_production-shape_of-out
-write_production-shape_of-out t c = writing_long _ _ _ _ _ _ _ _ _ _ _ _ _ c.requires _ _ _ _ _ c.loop-i.invariant
+write_production-shape_of-out t c = writing_long _ _ _ _ _ _ _ _ _ _ _ _ _ c.requires _ _ _ _ _ c.loop-s.invariant
 
 pub write_production-returns : goal.write_production-returns
-write_production-returns t c = writing_end _ _ _ _ _ _ _ _ _ _ _ _ _ c.requires _ _ _ _ _ c.loop-i.invariant c.loop-i-test.false
+write_production-returns t c = writing_end _ _ _ _ _ _ _ _ _ _ _ _ _ c.requires _ _ _ _ _ c.loop-s.invariant c.loop-s-test.false
 
 pub write_rule-expand_rule-requires : goal.write_rule-expand_rule-requires
 write_rule-expand_rule-requires t c = written_ready _ _ _ _ _ _ _ _ _ _ _ _ c.requires c.if-k-eq0.true

@@ -9,7 +9,7 @@ pub bounds-choice-r : goal.bounds-choice-r
 bounds-choice-r c = find_place _ _ _ _ _ _ _ _ c.requires.numbered
 
 pub loop-rest-init : goal.loop-rest-init
-loop-rest-init c = find_start _ _ _ _ _ _ _ _ c.requires.numbered _ c.requires.begun _ c.wide-p.ensures.0
+loop-rest-init c = find_start _ _ _ _ _ _ _ _ c.requires.numbered _ c.requires.begun _ c.from-p.ensures
 
 pub start_at-a-requires : goal.start_at-a-requires
 start_at-a-requires c = find_start_at _ _ _ _ _ _ _ _ c.requires.numbered _ _ _ c.loop-rest.invariant
@@ -20,11 +20,11 @@ start_at-e-requires c = find_next_at _ _ _ _ _ _ _ _ c.requires.numbered _ _ _ c
 pub places-m-requires : goal.places-m-requires
 places-m-requires c = find_places _ _ _ _ _ _ _ _ c.requires.numbered _ _ _ c.loop-rest.invariant _ _ c.start_at-a.ensures.0 c.start_at-e.ensures.0
 
-pub show-t-requires : goal.show-t-requires
-show-t-requires c = find_turnable _ _ _ _ _ _ _ _ c.requires.numbered _ _ _ c.loop-rest.invariant _ _ c.start_at-a.ensures.0 c.start_at-e.ensures.0 _ _ c.places-m.ensures
+pub show-requires : goal.show-requires
+show-requires c = find_turnable _ _ _ _ _ _ _ _ c.requires.numbered _ _ _ c.loop-rest.invariant _ _ c.start_at-a.ensures.0 c.start_at-e.ensures.0 _ _ c.places-m.ensures
 
 pub returns-in_default : goal.returns-in_default
-returns-in_default c = find_found _ _ _ _ _ _ _ _ c.requires.numbered _ _ _ c.loop-rest.invariant _ _ c.start_at-a.ensures.0 c.start_at-e.ensures.0 _ _ c.places-m.ensures _ _ c.show-t.ensures c.in_default.is
+returns-in_default c = find_found _ _ _ _ _ _ _ _ c.requires.numbered _ _ _ c.loop-rest.invariant _ _ c.start_at-a.ensures.0 c.start_at-e.ensures.0 _ _ c.places-m.ensures _ _ c.show.ensures c.in_default.is
 
 pub offset_bounds-next-p : goal.offset_bounds-next-p
 offset_bounds-next-p c = omega (arith, find_link _ _ _ _ _ _ _ _ c.requires.numbered _ _ _ c.loop-rest.invariant)
@@ -33,10 +33,10 @@ pub bounds-next-p : goal.bounds-next-p
 bounds-next-p c = find_link _ _ _ _ _ _ _ _ c.requires.numbered _ _ _ c.loop-rest.invariant
 
 pub cheapest_from-p-requires : goal.cheapest_from-p-requires
-cheapest_from-p-requires c = find_from _ _ _ _ _ _ _ _ c.requires.numbered _ _ _ c.loop-rest.invariant _ _ c.start_at-a.ensures.0 c.start_at-e.ensures.0 _ _ c.places-m.ensures _ _ c.show-t.ensures _ c.in-Past.is _ c.wide-after.ensures.0
+cheapest_from-p-requires c = find_from _ _ _ _ _ _ _ _ c.requires.numbered _ _ _ c.loop-rest.invariant _ _ c.start_at-a.ensures.0 c.start_at-e.ensures.0 _ _ c.places-m.ensures _ _ c.show.ensures _ c.in-Some.is _ c.from-after.ensures
 
 pub loop-rest-smaller : goal.loop-rest-smaller
-loop-rest-smaller c = find_less _ _ _ _ _ _ _ _ c.requires.numbered _ _ _ c.loop-rest.invariant _ _ c.start_at-a.ensures.0 c.start_at-e.ensures.0 _ _ c.places-m.ensures _ _ c.show-t.ensures _ c.in-Past.is _ c.wide-after.ensures.0 _ c.cheapest_from-p.ensures
+loop-rest-smaller c = find_less _ _ _ _ _ _ _ _ c.requires.numbered _ _ _ c.loop-rest.invariant _ _ c.start_at-a.ensures.0 c.start_at-e.ensures.0 _ _ c.places-m.ensures _ _ c.show.ensures _ c.in-Some.is _ c.from-after.ensures _ c.cheapest_from-p.ensures
 
 pub loop-rest-preserved : goal.loop-rest-preserved
-loop-rest-preserved c = find_on _ _ _ _ _ _ _ _ c.requires.numbered _ _ _ c.loop-rest.invariant _ _ c.start_at-a.ensures.0 c.start_at-e.ensures.0 _ _ c.places-m.ensures _ _ c.show-t.ensures _ c.in-Past.is _ c.wide-after.ensures.0 _ c.cheapest_from-p.ensures
+loop-rest-preserved c = find_on _ _ _ _ _ _ _ _ c.requires.numbered _ _ _ c.loop-rest.invariant _ _ c.start_at-a.ensures.0 c.start_at-e.ensures.0 _ _ c.places-m.ensures _ _ c.show.ensures _ c.in-Some.is _ c.from-after.ensures _ c.cheapest_from-p.ensures

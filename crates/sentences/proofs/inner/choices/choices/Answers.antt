@@ -16,7 +16,7 @@ pub bounds-head-r : goal.bounds-head-r
 bounds-head-r c = search (rules, choice_place)
 
 pub cheapest_from-x-requires : goal.cheapest_from-x-requires
-cheapest_from-x-requires c = choosing_ready _ _ _ c.requires _ _ c.links.ensures _ _ c.loop-r.invariant (omega arith) _ c.wide-p.ensures.0
+cheapest_from-x-requires c = choosing_ready _ _ _ c.requires _ _ c.links.ensures _ _ c.loop-r.invariant (omega arith) _ c.from-p.ensures
 
 pub offset_bounds-choice-r : goal.offset_bounds-choice-r
 offset_bounds-choice-r c = search (rules, choice_place)
@@ -25,7 +25,7 @@ pub bounds-choice-r : goal.bounds-choice-r
 bounds-choice-r c = search (rules, choice_place)
 
 pub loop-r-preserved : goal.loop-r-preserved
-loop-r-preserved c = choosing_on _ _ _ c.requires _ _ c.links.ensures _ _ c.loop-r.invariant (omega arith) _ c.wide-p.ensures.0 _ c.cheapest_from-x.ensures
+loop-r-preserved c = choosing_on _ _ _ c.requires _ _ c.links.ensures _ _ c.loop-r.invariant (omega arith) _ c.from-p.ensures _ c.cheapest_from-x.ensures
 
 pub returns : goal.returns
 returns c = choosing_end _ _ _ c.requires _ _ c.links.ensures _ _ c.loop-r.invariant (omega arith)

@@ -1,5 +1,5 @@
 -- The refusals by their numbers.
-use Rattle.std.specs.Prelude.{ℕ}
+use Rattle.std.specs.Prelude.{ℕ, List, ◌++◌, codes, decimal}
 use Rattle.grammar.specs.declared.refusal.Refusal.{Refusal}
 use Rattle.grammar.specs.declared.refusal.Refusal.TheVariants.{Sizes, Starts, Owner, Unowned, Symbol, Start, Length, Mode, Rule, Token, Prod, NoSentence, Dear, Circular, Long, Many, Job, File, Check, Place, Blocks, Room, Free, Version}
 
@@ -29,3 +29,7 @@ number_of Blocks = 23
 number_of Room = 24
 number_of Free = 25
 number_of Version = 26
+
+-- how a refusal is printed: `refused ` and the number
+abbrev pub refusal_text : Refusal → List ℕ
+refusal_text r = codes "refused " ++ decimal (number_of r)

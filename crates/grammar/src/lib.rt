@@ -149,34 +149,45 @@ fn start_wrong(owners: &[u16], starts: &[u16], symbols: &[u16]) -> bool
     start_held(symbols)
 }
 
-// The lowest refusal due of 1 to 6, or that the grammar is well-formed. Each list is passed a few times, none once for each rule.
-pub fn check(g: &Grammar) -> Result<(), Refusal>
-    ensures { outcome_of result ≡ check_of (flat_of g.now) }
+// The check of the lists, which come one by one: so the compiler sees all that it reads, and a loop that makes the check of
+// one grammar at each turn makes it once.
+#[inline(never)]
+fn check_lists(
+    rules: u16,
+    owners: &[u16],
+    starts: &[u16],
+    symbols: &[u16],
+    costs: &[u8],
+) -> Result<(), Refusal>
+    ensures { outcome_of result ≡ check_of (flat rules owners.now starts.now symbols.now costs.now) }
 {
-    if sizes_out(
-        g.rules as usize,
-        g.costs.len(),
-        g.owners.len(),
-        g.symbols.len(),
-    ) {
+    if sizes_out(rules as usize, costs.len(), owners.len(), symbols.len()) {
         return Err(Refusal::Sizes);
     }
-    if starts_wrong(g.starts, g.owners.len(), g.symbols.len()) {
+    if starts_wrong(starts, owners.len(), symbols.len()) {
         return Err(Refusal::Starts);
     }
-    if owner_out(g.rules, g.owners) {
+    if owner_out(rules, owners) {
         return Err(Refusal::Owner);
     }
-    if rule_unowned(g.rules, g.owners) {
+    if rule_unowned(rules, owners) {
         return Err(Refusal::Unowned);
     }
-    if symbols_out(g.rules, g.costs.len(), g.symbols) {
+    if symbols_out(rules, costs.len(), symbols) {
         return Err(Refusal::Symbol);
     }
-    if start_wrong(g.owners, g.starts, g.symbols) {
+    if start_wrong(owners, starts, symbols) {
         return Err(Refusal::Start);
     }
     Ok(())
+}
+
+// The lowest refusal due of 1 to 6, or that the grammar is well-formed. Each list is passed a few times, none once for each rule.
+#[inline(always)]
+pub fn check(g: &Grammar) -> Result<(), Refusal>
+    ensures { outcome_of result ≡ check_of (flat_of g.now) }
+{
+    check_lists(g.rules, g.owners, g.starts, g.symbols, g.costs)
 }
 
 // The list's empty start.
@@ -187,7 +198,7 @@ fn empty_start<'a>(symbols: &'a [u16]) -> &'a [u16]
 }
 
 // Production `prod` as a part of the caller's own symbol list; its empty start where `production_len` refuses.
-pub fn production<'a>(g: &Grammar<'a>, prod: PIdx) -> &'a [u16]
+pub fn production<'a, 's>(g: &Grammar<'a, 's>, prod: PIdx) -> &'s [u16]
     ensures { Produces (flat_of g.now) prod.0 g.now.symbols.ref_ptr result.ref_ptr result.now }
 {
     let Ok(()) = check(g) else {

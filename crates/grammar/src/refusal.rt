@@ -1,6 +1,6 @@
 // Why a call is refused.
-ghost use Rattle.std.specs.Prelude.{◌≡◌};
-ghost use Rattle.grammar.specs.Number.{number_of};
+ghost use Rattle.std.specs.Prelude.{◌≡◌, Some};
+ghost use Rattle.grammar.specs.Number.{number_of, refusal_text};
 
 use std::error::Error;
 use std::fmt;
@@ -92,6 +92,8 @@ impl From<Refusal> for u16 {
 }
 
 impl fmt::Display for Refusal {
+    ghost output = { λ refusal. Some (refusal_text refusal) };
+
     fn fmt<W: fmt::Write>(&self, f: &mut fmt::Formatter<W>) -> fmt::Result {
         write!(f, "refused {}", u16::from(*self))
     }

@@ -42,7 +42,7 @@ const SYMBOLS: [u16; 143] = [
 const COSTS: [u8; 8] = [1, 1, 1, 1, 1, 1, 1, 0];
 
 // The house grammar, as the calls take it.
-fn house() -> Grammar<'static>
+fn house() -> Grammar<'static, 'static>
     ensures { flat_of result ≡ house }
 {
     Grammar {

@@ -64,9 +64,9 @@ fn moved(prods: usize, at: Stand, got: bool) -> Stand
 }
 
 // At most n visits, in rising order from where the job stands, starting again at 0; fewer only when the job is or becomes
-// done. Where it stands then, and how many visits they were.
+// done. Where it stands then, and how many visits they were. A number that is no kind's is taken for COST's.
 pub fn work(
-    kind: Kind,
+    kind: u16,
     g: &Grammar,
     from: Stand,
     n: u32,
@@ -77,16 +77,17 @@ pub fn work(
     cost: &mut [u32],
     reached: &[u32],
 ) -> (Stand, u32)
-    requires { Workable (kind_of (kind_number kind) (tables first.old empty.old follow.old productive.old cost.old reached.now)) (flat_of g.now) from.next (tables first.old empty.old follow.old productive.old cost.old reached.now) }
-    ensures { Slice (Visit (kind_of (kind_number kind) (tables first.old empty.old follow.old productive.old cost.old reached.now)) (flat_of g.now)) (length g.now.owners.now) n (stands from) (tables first.old empty.old follow.old productive.old cost.old reached.now) result.1 (stands result.0) (tables first.new empty.new follow.new productive.new cost.new reached.now) }
+    requires { Workable (kind_of kind (tables first.old empty.old follow.old productive.old cost.old reached.now)) (flat_of g.now) from.next (tables first.old empty.old follow.old productive.old cost.old reached.now) }
+    ensures { Slice (Visit (kind_of kind (tables first.old empty.old follow.old productive.old cost.old reached.now)) (flat_of g.now)) (length g.now.owners.now) n (stands from) (tables first.old empty.old follow.old productive.old cost.old reached.now) result.1 (stands result.0) (tables first.new empty.new follow.new productive.new cost.new reached.now) }
 {
+    let named = Kind::try_from(kind).unwrap_or(Kind::Cost);
     let mut at = from;
     for made in 0..n {
         if at.done {
             return (at, made);
         }
         let got = step(
-            kind,
+            named,
             g,
             usize::from(at.next),
             first,

@@ -79,7 +79,7 @@ pub fn slice(
         done: job.done,
     };
     let (to, made) = work(
-        kind, g, from, n, first, empty, follow, productive, cost, reached,
+        job.kind, g, from, n, first, empty, follow, productive, cost, reached,
     );
     *job = Job {
         kind: job.kind,

@@ -7,7 +7,7 @@ use native.Mathlib.Omega.{arith}
 use lib.ListN.{length, take, drop, set, length-set, get_or}
 use lib.Seq.{take-set-lt, drop-set-lt, get_or-take, get_or-drop, drop-drop, take-suc, take-suc-set, take_at, get_or_at, length-take-le}
 use Rattle.theory.specs.Odometer.{product, Fits, zeros, turns, Carrying}
-use Rattle.theory.proofs.Odometer.{zeros_append, product_append, turns_append, fits_parts, parts_fit, fits_length, turns_zeros, carry_below, carry_fits, carry_turns, carry_on, carry_spills, carry_zeros}
+use Rattle.theory.proofs.Odometer.{zeros_append, product_append, turns_append, fits_parts, parts_fit, fits_length, turns_zeros, carry_start, carry_below, carry_fits, carry_turns, carry_on, carry_spills, carry_zeros}
 use Rattle.odometer.specs.Turning.{Turnable, Turns}
 use Rattle.std.specs.Prelude.{Option, None, Some}
 
@@ -47,7 +47,18 @@ module _ (bases : List ℕ) (m k : ℕ) where
     rest = refl;
   }
 
-  module _ (were : List ℕ) (left : ℕ) (todo : List ℕ) (i : ℕ) (t : Turned bases m k were left todo i) (some : 0 < i) where
+  pub turning_end : (start todo : List ℕ) (left : ℕ) → Turning bases m k start todo left → left ≡ 0 → Turns bases m k start None todo
+  turning_end start todo left t e = record { room = t.todo_long; shows = (t.fits, omega (arith, t.made)); rest = t.rest }
+
+  pub turned_start : (start todo : List ℕ) (left : ℕ) → Turning bases m k start todo left → (left ≡ 0 → ⊥) → Turned bases m k todo (left - 1) todo m
+  turned_start start todo left t n = record {
+    begun = subst (λ (z : ℕ). Turning bases m k todo todo z) {x = left} {y = suc (left - 1)} (omega (arith, n)) (record { few = t.few; bases_long = t.bases_long; todo_long = t.todo_long; low = t.low; fits = t.fits; made = t.made; rest = refl });
+    todo_long = t.todo_long;
+    carry = carry_start (take m bases) (take m todo) t.fits m (sym (length-take-le m bases (omega (arith, t.few, t.bases_long))));
+    rest = refl;
+  }
+
+  module _ (were : List ℕ) (left : ℕ) (todo : List ℕ) (i : ℕ) (t : Turned bases m k were left todo i) (some : i ≡ 0 → ⊥) where
     down : suc (i - 1) ≡ i
     down = omega (arith, some)
 
@@ -56,6 +67,9 @@ module _ (bases : List ℕ) (m k : ℕ) where
 
     inside : (i - 1) < m
     inside = omega (arith, carried.inside, length-take-le m bases (omega (arith, t.begun.few, t.begun.bases_long)))
+
+    pub turned_place : (i - 1) < 16
+    turned_place = omega (arith, inside, t.begun.few)
 
     pub turned_below : get_or todo (i - 1) 0 < 65535
     turned_below = omega (arith, t.begun.low (i - 1) inside, carry_below (take m bases) (take m were) t.begun.fits (i - 1) (take m todo) carried, get_or-take m todo (i - 1) 0 inside, get_or-take m bases (i - 1) 0 inside)

@@ -7,18 +7,27 @@ fn turn(bases: &[u32; 16], m: usize, k: u32, todo: &mut [u32; 16]) -> Option<u32
     requires { Turnable bases.now m todo.old }
     ensures { Turns bases.now m k todo.old result todo.new }
 {
-    'turns: for left in (0..k).rev() {
-        for j in (0..m).rev() {
+    let mut left = k;
+    'turns: loop {
+        if left == 0 {
+            return None;
+        }
+        left -= 1;
+        let mut j = m;
+        loop {
+            if j == 0 {
+                break 'turns;
+            }
+            j -= 1;
             let d = todo[j];
             if d + 1 < bases[j] {
                 todo[j] = d + 1;
-                continue 'turns;
+                break;
             }
             todo[j] = 0;
         }
-        return Some(left);
     }
-    None
+    Some(left)
 }
 
 // The same, with the last place set at once: it takes k by its base, and those before it turn once for each whole round

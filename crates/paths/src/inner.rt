@@ -1,6 +1,6 @@
 // The search below `has_path`: links of each rule's productions, then turn by turn the rules that it comes to.
 ghost use Rattle.grammar.specs.Lent.{flat_of};
-ghost use Rattle.std.specs.Prelude.{◌≤◌, length};
+ghost use Rattle.std.specs.Prelude.{List, ℕ, ◌≤◌, length, replicate};
 ghost use Rattle.paths.specs.Lists.{work, Is, Among, Holds, Goes};
 ghost use Rattle.paths.specs.Search.{Markable, Walkable, Ready, Begun, Findable, Searchable, Finds};
 ghost use Rattle.paths.specs.Reached.{Copied, Fillable, ReachedDefined};
@@ -139,6 +139,17 @@ pub fn search(g: &Grammar, from: usize, to: usize, seen: &mut [u32; 16]) -> bool
         &mut [0; 512],
         seen,
     )
+}
+
+// The same in a row of its own. It writes nothing that is lent: so the compiler lets a loop that asks for paths of one grammar
+// check it once.
+#[inline(never)]
+pub fn leads(g: &Grammar, from: usize, to: usize) -> bool
+    requires { Searchable g.now.rules g.now.owners.now g.now.starts.now g.now.symbols.now from to (replicate 16 0) }
+    ensures { (seen : List ℕ) × Finds g.now.owners.now g.now.starts.now g.now.symbols.now from to result seen }
+{
+    let mut seen = [0; 16];
+    search(g, from, to, &mut seen)
 }
 
 // Leaves the first words of `seen` in a row of at most 16.

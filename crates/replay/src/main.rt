@@ -86,13 +86,24 @@ fn say_if(rt: &impl Print, answer: Result<bool, Refusal>, gap: bool, n: u16) -> 
     }
 }
 
-// The tokens that are marked for the rule.
-fn say_marks(rt: &impl Print, g: &Grammar, table: &[u32], rule: u16) -> io::Result<()> {
+// The numbers of which the answer is yes.
+fn say_all(rt: &impl Print, answers: &[Result<bool, Refusal>]) -> io::Result<()> {
     let mut gap = false;
-    for t in 0..narrow(g.costs.len()) {
-        gap = say_if(rt, tables::is_set(g, table, RIdx(rule), TIdx(t)), gap, t)?;
+    for (n, &answer) in answers.iter().enumerate() {
+        gap = say_if(rt, answer, gap, narrow(n))?;
     }
     Ok(())
+}
+
+// The tokens that are marked for the rule. All are asked before one is printed, here and for paths and productions: each
+// call checks the grammar, and in a loop that prints nothing the compiler makes the check once.
+fn say_marks(rt: &impl Print, g: &Grammar, table: &[u32], rule: u16) -> io::Result<()> {
+    let n = g.costs.len().min(TOKENS);
+    let mut answers = [Ok(false); TOKENS];
+    for (t, answer) in answers[..n].iter_mut().enumerate() {
+        *answer = tables::is_set(g, table, RIdx(rule), TIdx(narrow(t)));
+    }
+    say_all(rt, &answers[..n])
 }
 
 // 1 for a rule that is marked, else 0.
@@ -105,11 +116,12 @@ fn say_empty(rt: &impl Print, g: &Grammar, empty: &[u32], rule: u16) -> io::Resu
 
 // The rules to which there is a path.
 fn say_paths(rt: &impl Print, g: &Grammar, rule: u16) -> io::Result<()> {
-    let mut gap = false;
-    for to in 0..g.rules {
-        gap = say_if(rt, paths::has_path(g, RIdx(rule), RIdx(to)), gap, to)?;
+    let n = usize::from(g.rules).min(RULES);
+    let mut answers = [Ok(false); RULES];
+    for (to, answer) in answers[..n].iter_mut().enumerate() {
+        *answer = paths::has_path(g, RIdx(rule), RIdx(narrow(to)));
     }
-    Ok(())
+    say_all(rt, &answers[..n])
 }
 
 fn say_cost(
@@ -198,17 +210,28 @@ fn say_rules(
     Ok(())
 }
 
-// A production's line: its number and its symbols, as the stretch of the list that `production` lends.
-fn say_prod(rt: &impl Print, g: &Grammar, prod: u16) -> io::Result<()> {
+// Each production's symbols, as the stretch of the list that `production` lends.
+fn stretches<'a, 's>(g: &Grammar<'a, 's>) -> [&'s [u16]; PRODS] {
+    let n = g.owners.len().min(PRODS);
+    let mut all = [g.symbols; PRODS];
+    for (prod, stretch) in all[..n].iter_mut().enumerate() {
+        *stretch = grammar::production(g, PIdx(narrow(prod)));
+    }
+    all
+}
+
+// A production's line: its number and its symbols.
+fn say_prod(rt: &impl Print, prod: u16, stretch: &[u16]) -> io::Result<()> {
     print!(rt; "prod {prod},")?;
-    say_tokens(rt, grammar::production(g, PIdx(prod)))?;
+    say_tokens(rt, stretch)?;
     println!(rt)
 }
 
 // A line for each production.
 fn say_prods(rt: &impl Print, g: &Grammar) -> io::Result<()> {
-    for prod in 0..narrow(g.owners.len()) {
-        say_prod(rt, g, prod)?;
+    let all = stretches(g);
+    for (prod, stretch) in (0..narrow(g.owners.len())).zip(all.iter()) {
+        say_prod(rt, prod, stretch)?;
     }
     Ok(())
 }

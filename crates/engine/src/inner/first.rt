@@ -45,7 +45,9 @@ fn walk(g: &Grammar, q: Prod, first: &mut [u32], empty: &[u32]) -> Walked
     Walked { new, past: true }
 }
 
-// Production p's step: its walk for its owner, which is marked EMPTY past the end.
+// Production p's step: its walk for its owner, which is marked EMPTY past the end. Slices, which make it at each turn of their
+// loop, take up to half as long again where it is a call.
+#[inline(always)]
 pub fn step(g: &Grammar, p: usize, first: &mut [u32], empty: &mut [u32]) -> bool
     requires { Ready (flat_of g.now) p (lent first.old empty.old) }
     ensures { Stepped (FirstBecame (flat_of g.now) p (lent first.old empty.old)) (lent first.old empty.old) result (lent first.new empty.new) }

@@ -14,7 +14,7 @@ ghost use Rattle.engine.specs.Kinds.{follow};
 use crate::inner::{Moved, Table, told};
 use grammar::Grammar;
 use grammar::inner::{Prod, prod_at};
-use tables::inner::{row_width, table_width};
+use tables::inner::{row_width, table_width, turn_at};
 
 // Joins to rule r's row the owner's, if all that follows vanishes, and then what was carried along.
 fn put(g: &Grammar, owner: usize, r: usize, null: bool, ahead: &[u32], follow: &mut [u32]) -> bool
@@ -102,10 +102,12 @@ fn walk(
     requires { Walkable g.now.rules (length g.now.costs.now) g.now.symbols.now q.from q.to q.owner (firsts first.now empty.now) ahead.old follow.old }
     ensures { Grown g.now.rules (length g.now.costs.now) (words (length g.now.costs.now)) follow.old follow.new (follow_back (marks_of g.now.rules (length g.now.costs.now) (firsts first.now empty.now)) q.owner (form g.now.symbols.now q.from q.to) (table_of g.now.rules (length g.now.costs.now) follow.old)) result }
 {
+    let n = q.to - q.from;
     let mut new = false;
     let mut null = true;
-    for &symbol in g.symbols[q.from..q.to].iter().rev() {
-        let x = one(g, q.owner, symbol, null, first, empty, ahead, follow);
+    for i in 0..n {
+        let s = g.symbols[q.from + turn_at(true, n, i)];
+        let x = one(g, q.owner, s, null, first, empty, ahead, follow);
         new |= x.new;
         null = x.null;
     }

@@ -9,8 +9,8 @@ returns-in_err-check c = rw (passed_on c.from_residual.ensures) (path_refused _ 
 pub returns-in_err-refuse_if : goal.returns-in_err-refuse_if
 returns-in_err-refuse_if c = rw (passed_on c.from_residual-in_err-refuse_if.ensures) (path_refused _ _ _ _ _ _ _ _ _ c.in_ok-check.ensures c.in_err-refuse_if.ensures _ refl)
 
-pub search-requires : goal.search-requires
-search-requires c = path_search _ _ _ _ _ _ _ _ _ c.in_ok-check.ensures c.in_ok-refuse_if.ensures refl _ _ _ refl c.from.ensures c.from-2.ensures
+pub leads-requires : goal.leads-requires
+leads-requires c = path_search _ _ _ _ _ _ _ _ _ c.in_ok-check.ensures c.in_ok-refuse_if.ensures refl _ _ _ refl c.from.ensures c.from-2.ensures
 
 pub returns : goal.returns
-returns c = path_does _ _ _ _ _ _ _ _ _ c.in_ok-check.ensures c.in_ok-refuse_if.ensures refl _ _ _ refl c.from.ensures c.from-2.ensures _ _ c.search.ensures
+returns c = path_does _ _ _ _ _ _ _ _ _ c.in_ok-check.ensures c.in_ok-refuse_if.ensures refl _ _ _ refl c.from.ensures c.from-2.ensures _ _ c.leads.ensures.1

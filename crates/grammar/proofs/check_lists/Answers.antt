@@ -2,7 +2,7 @@ use Rattle.theory.proofs.Bools.{told}
 use Rattle.grammar.proofs.Lowest.{gives_1, gives_2, gives_3, gives_4, gives_5, gives_6, gives_none}
 use Rattle.grammar.proofs.Well.{rules_limit, tokens_some, tokens_limit, prods_limit, starts_laid}
 use borrow.Author.Rules.{rules}
-use Rattle.grammar.proofs.check.Goals as goal
+use Rattle.grammar.proofs.check_lists.Goals as goal
 
 pub returns-then-sizes_out : goal.returns-then-sizes_out
 returns-then-sizes_out c = search (rules, gives_1, told)

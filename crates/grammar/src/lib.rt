@@ -83,7 +83,13 @@ fn rule_unowned(rules: u16, owners: &[u16]) -> bool
     requires { (rules ≤ 512) × (owner_out rules owners.now ≡ false) }
     ensures { result ≡ rule_unowned rules owners.now }
 {
-    owned_rules(owners)[..rules as usize].contains(&false)
+    let owned = owned_rules(owners);
+    for r in 0..rules as usize {
+        if !owned[r] {
+            return true;
+        }
+    }
+    false
 }
 
 // Whether a symbol is a token from `eof` on or a rule from `top` on.

@@ -73,16 +73,18 @@ fn round<T: Table>(
 }
 
 // Rounds until no further one is needed: one up, the next down, so that a chain of rules settles in a few rounds either
-// way.
+// way. They go by a copy of the grammar: the compiler keeps the places of its lists in registers, and would look those of
+// one that is lent up again behind each word that is written.
 pub fn settle<T: Table>(kind: &T, g: &Grammar, table: &mut [u32], row: &mut [u32])
     requires { Begun (T.kind kind.now) (flat_of g.now) (lent table.old row.old) }
     ensures { Settled (T.kind kind.now) (flat_of g.now) (lent table.old row.old) (lent table.new row.new) }
 {
+    let own = *g;
     let mut again = false;
     let mut down = false;
     let mut more = true;
     while more {
-        more = round(kind, g, again, down, table, row);
+        more = round(kind, &own, again, down, table, row);
         again = true;
         down = !down;
     }

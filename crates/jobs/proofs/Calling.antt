@@ -1,21 +1,17 @@
 -- What the returns of a slice owe, from what `check` and the tests on the way answered.
-use mathlib.Core.Bool.{Bool, true, false, ◌||◌, false≢true}
+use mathlib.Core.Bool.{Bool, true, false, ◌||◌}
 use mathlib.Core.List.{List}
 use mathlib.Core.Path.{◌≡◌, refl, sym, ◌∙◌, ap, subst}
 use Prim.Native.Nat.{ℕ, ◌*◌, ◌<◌}
 use native.Mathlib.Omega.{arith}
 use lib.Dec.{leb}
 use lib.ListN.{length}
-use borrow.Author.Tests.{leb-false, ne_eqb}
-use Rattle.std.specs.Prelude.{Result, Ok, Err}
-use Rattle.std.specs.Result.{result_unwrap_or}
+use borrow.Author.Tests.{leb-false}
 use Rattle.theory.proofs.Bools.{or_none}
 use Rattle.theory.specs.Slices.{Slice}
 use Rattle.grammar.specs.Flat.{Flat}
-use Rattle.grammar.specs.Number.{number_of}
 use Rattle.grammar.specs.Outcome.{Outcome, answers, refused, unless}
 use Rattle.grammar.specs.Production.{check_of}
-use Rattle.grammar.specs.declared.refusal.Refusal.{Refusal}
 use Rattle.grammar.proofs.Lowest.{after_well}
 use Rattle.grammar.proofs.Outcomes.{not_both, refused_one, answers_one}
 use Rattle.grammar.proofs.Well.{well}
@@ -33,7 +29,7 @@ use Rattle.jobs.specs.declared.Job.{Job}
 use Rattle.jobs.specs.declared.inner.Stand.{Stand}
 use Rattle.jobs.specs.declared.kind.Kind.{Kind as Named}
 use Rattle.jobs.specs.declared.kind.Kind.TheVariants.{First, Follow, Productive, Cost}
-use Rattle.jobs.specs.Kinds.{Tables, tables, read_of, cost, kind_of, kind_number, no_kind, kind_read, kind_wrong, FollowHeld, Held, Visit, Ready}
+use Rattle.jobs.specs.Kinds.{Tables, tables, read_of, kind_of, kind_number, no_kind, kind_wrong, FollowHeld, Held, Visit}
 use Rattle.jobs.specs.Calls.{stands, progress_of, job_at, slice_due, Lends, lends, Works, Workable}
 
 -- `wrong`
@@ -92,27 +88,6 @@ module _ (g : Flat) (t : Tables) (small : Words t) where
 read_none : (b : Bool) (n m : ℕ) → refused m ≡ unless b 17 (answers n) → (b ≡ true) × (m ≡ 17)
 read_none true n m e = (refl, refused_one e)
 read_none false n m e = absurd (not_both (sym e))
-
--- `work`: a number that is no kind's is taken for COST's
-none_cost : (n : ℕ) (u : Tables) → no_kind n ≡ true → kind_of n u ≡ cost
-none_cost n u e = rw (ne_eqb n 0 (other 0 refl), ne_eqb n 2 (other 2 refl), ne_eqb n 3 (other 3 refl))
-  where
-    other : (m : ℕ) → no_kind m ≡ false → n ≡ m → ⊥
-    other m f q = false≢true (sym f ∙ ap no_kind (sym q) ∙ e)
-
-module _ (n : ℕ) (r : Result Named Refusal) (is : kind_read r ≡ unless (no_kind n) 17 (answers n)) (k : Named) (e : k ≡ result_unwrap_or r Cost) where
-  taken : (t : Tables) → kind_of (kind_number k) t ≡ kind_of n t
-  taken t = go r is e
-    where
-      go : (x : Result Named Refusal) → kind_read x ≡ unless (no_kind n) 17 (answers n) → k ≡ result_unwrap_or x Cost → kind_of (kind_number k) t ≡ kind_of n t
-      go (Ok a) i f = ap (λ z. kind_of (kind_number z) t) f ∙ ap (λ z. kind_of z t) (answers_one (sym (unless_not (no_kind n) 17 (answers n) (kind_number a) (sym i)).1))
-      go (Err x) i f = ap (λ z. kind_of (kind_number z) t) f ∙ sym (none_cost n t (read_none (no_kind n) n (number_of x) i).0)
-
-  pub taken_ready : (g : Flat) (p : ℕ) (t : Tables) → Ready (kind_of n t) g p t → Ready (kind_of (kind_number k) t) g p t
-  taken_ready g p t x = subst (λ z. Ready z g p t) (sym (taken t)) x
-
-  pub taken_visit : (g : Flat) (p : ℕ) (t : Tables) (x : Bool) (to : Tables) → Visit (kind_of (kind_number k) t) g p t x to → Visit (kind_of n t) g p t x to
-  taken_visit g p t x to v = subst (λ z. Visit z g p t x to) (taken t) v
 
 -- `slice`
 module _ (g : Flat) (n : ℕ) (j : Job) (t : Tables) (is : answers tt ≡ check_of g) where

@@ -1,7 +1,6 @@
-use Rattle.jobs.proofs.Calling.{taken_ready, taken_visit}
 use Rattle.jobs.proofs.Working.{working_start, working_ready, working_on, working_stop, working_end}
 use native.Mathlib.Omega.{arith}
-use Rattle.jobs.proofs.inner.work.Goals as goal
+use Rattle.jobs.proofs.inner.visits.Goals as goal
 
 pub loop-made-init : goal.loop-made-init
 loop-made-init c = working_start _ _ _ _ c.requires
@@ -10,13 +9,13 @@ pub returns-then-at : goal.returns-then-at
 returns-then-at c = working_stop _ _ _ _ _ _ _ c.loop-made.invariant _ (omega arith) c.if-at.true
 
 pub step-got-requires : goal.step-got-requires
-step-got-requires c = taken_ready c.args.kind _ c.try_from.ensures _ c.unwrap_or-named.ensures _ _ _ (working_ready _ _ _ _ _ _ _ c.loop-made.invariant _ c.from.ensures)
+step-got-requires c = working_ready _ _ _ _ _ _ _ c.loop-made.invariant _ c.from.ensures
 
 pub moved-at-requires : goal.moved-at-requires
 moved-at-requires c = let i = c.loop-made.invariant.begun in (i.below, i.well.sizes.prods_high)
 
 pub loop-made-preserved : goal.loop-made-preserved
-loop-made-preserved c = working_on _ _ _ _ _ _ _ c.loop-made.invariant c.if-at.false _ c.from.ensures _ _ (taken_visit c.args.kind _ c.try_from.ensures _ c.unwrap_or-named.ensures _ _ _ _ _ c.step-got.ensures) _ c.moved-at.ensures
+loop-made-preserved c = working_on _ _ _ _ _ _ _ c.loop-made.invariant c.if-at.false _ c.from.ensures _ _ c.step-got.ensures _ c.moved-at.ensures
 
 pub shape_of-first : goal.shape_of-first
 shape_of-first c = c.loop-made.invariant.long.first

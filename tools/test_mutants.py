@@ -18,8 +18,8 @@ LIBRARIES = [path.parent.parent for path in sorted((TOP / "crates").glob("*/src/
 CRATES = {path.name for path in (TOP / "crates").iterdir()}
 
 # What the prover prints, cut: `set` fails by itself, `join` by itself and for what it calls, `join_from` for what it
-# calls, `number` and `start_at` have no proof file, and `clear`, `loops` and `gone` have other needs than their proofs
-# answer.
+# calls, `number` and `start_at` have no proof file, and `clear`, `loops`, `gone` and `ways` have other needs and places than
+# their proofs name.
 PRINTED = """./proofs/inner/set/Answers.antt:38:14: error: `returns`: as printed, the two types first differ
   computed as far as they go, the two types differ only where one has `32` (expected) and the other has `31` (found)
 ./proofs/inner/set/Answers.antt:46:5: error: `set_spec`: `returns` was not admitted (it has holes)
@@ -30,6 +30,8 @@ PRINTED = """./proofs/inner/set/Answers.antt:38:14: error: `returns`: as printed
 ./proofs/inner/clear/Answers.antt:46:5: error: `overflow_sub-word`: `goal.overflow_sub-word`: module `Goals` has no `overflow_sub-word`
 ./proofs/inner/loops/Invariants.antt:9:5: error: `invariant-loop-i`: expected type `a`, but this has type `b`
 ./proofs/inner/gone/Answers.antt:9:5: error: `overflow_mul-at`: `goal.overflow_mul-at`: module `x.Goals` has no `overflow_mul-at`
+./proofs/inner/ways/Answers.antt:9:5: error: `returns-in_err-check`: record `x.In-After-from_residual` (nearest: .in_ok-check)
+  has no field `in_err-check`
 fn rows::inner::is_set: proved
 fn rows::inner::set: not proved
 fn rows::inner::join: not proved; it calls `rows::inner::set`, which is not proved
@@ -37,6 +39,7 @@ fn rows::inner::join_from: no proof: it calls `rows::inner::set`, which is not p
 fn rows::inner::clear: not proved
 fn rows::inner::loops: not proved
 fn rows::inner::gone: not proved
+fn rows::inner::ways: not proved
 fn rows::inner::number: no proof: expected answers in ./proofs/inner/number/Answers.antt; `search` did not prove `returns-2`
 fn rows::inner::start_at: no proof: the borrow checker's part in its proof is not made yet: a call of `rows::inner::set`, which ..
 logic=not-proved
@@ -144,12 +147,12 @@ class Verdicts(unittest.TestCase):
         self.assertEqual(verdict("number"), ("refused", "`returns-2`: search finds no proof"))
 
     def test_other_needs_are_no_refusal(self):
-        for name in ("clear", "loops", "gone"):
+        for name in ("clear", "loops", "gone", "ways"):
             self.assertEqual(verdict(name)[0], "BAD EDIT", name)
 
     def test_disturbed(self):
         said, refused = dict(run.SAID.findall(PRINTED)), run.needs_refused("rows", PRINTED)
-        edits = [edit(name) for name in ("set", "number", "clear", "loops", "gone")]
+        edits = [edit(name) for name in ("set", "number", "clear", "loops", "gone", "ways")]
         self.assertEqual(run.disturbed(edits, said, refused, {}), ["rows::inner::join"])
         self.assertEqual(run.disturbed(edits + [edit("join")], said, refused, {}), [])
 

@@ -73,8 +73,8 @@ fn round<T: Table>(
 }
 
 // Rounds until no further one is needed: one up, the next down, so that a chain of rules settles in a few rounds either
-// way. They go by a copy of the grammar: the compiler keeps the places of its lists in registers, and would look those of
-// one that is lent up again behind each word that is written.
+// way. They go by a copy of the grammar: in one that is lent the compiler looks up the places of the lists again behind
+// each word that is written, and in a copy it need not.
 pub fn settle<T: Table>(kind: &T, g: &Grammar, table: &mut [u32], row: &mut [u32])
     requires { Begun (T.kind kind.now) (flat_of g.now) (lent table.old row.old) }
     ensures { Settled (T.kind kind.now) (flat_of g.now) (lent table.old row.old) (lent table.new row.new) }
